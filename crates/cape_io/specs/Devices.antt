@@ -1,0 +1,31 @@
+-- Counts of faults, and what is told of bytes and of files.
+use Rattle.std.specs.Prelude.{◌≡◌, ℕ, ◌+◌, ◌-◌, ◌^◌, ◌≤◌, min, List, [], length, take, ⊤, Option, Some, slice_index_or}
+use Rattle.std.specs.Io.KnownBytes.{Appends}
+
+-- One more fault, up to the last number that a `u64` holds.
+abbrev pub one_fault_more : ℕ → ℕ
+one_fault_more count = min (count + 1) (2 ^ 64 - 1)
+
+-- The count rose, or it stands at the last number that a `u64` holds.
+abbrev pub Rose : ℕ → ℕ → Type 0
+Rose before now = one_fault_more before ≤ now
+
+-- Some front of the piece was appended, where the bytes are told.
+abbrev pub PutsFront : Option (List ℕ) → Option (List ℕ) → List ℕ → Type 0
+PutsFront old new piece = (n : ℕ) × (n ≤ length piece) × Appends old new (take n piece)
+
+-- What is told of the file of a name: nothing, that there is none, or its bytes.
+pub data Told : Type 0 where
+  Untold : Told
+  Absent : Told
+  Present : (bytes : List ℕ) → Told
+
+-- All bytes of the file are left, where these are told.
+abbrev pub StartsAt : Told → Option (List ℕ) → Type 0
+StartsAt Untold left = ⊤
+StartsAt Absent left = ⊤
+StartsAt (Present bytes) left = left ≡ Some bytes
+
+-- The word at a place.
+abbrev pub word_at : List (List ℕ) → ℕ → List ℕ
+word_at words place = slice_index_or words place []
