@@ -1,0 +1,3 @@
+-- Laws of numbers, of their bits and of lists made place by place.
+pub mod Numbers
+pub mod Lists

@@ -1,0 +1,3 @@
+-- Numbers and their bits.
+pub mod Numbers
+pub mod Lists
