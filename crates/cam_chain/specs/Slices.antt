@@ -1,0 +1,69 @@
+-- The state of the slices, and what a search, an update, a pass and a written word do to it. Every write is guarded:
+-- a place outside the chain never changes.
+use Rattle.std.specs.Prelude.{ℕ, ◌+◌, ◌-◌, Bool, true, false, cond, ◌&&◌, ◌||◌, eqb, List, [], ◌∷◌}
+use Rattle.std.specs.Int.{bit_at}
+use lib.Dec.{ltb, leb}
+use mathlib.Core.Bool.{beq}
+
+-- the number of columns, the bit of each subarray, row and column, the tag of each subarray and column, and the
+-- control number, which no search, update or pass changes
+pub record Slices : Type 0 where
+  pub columns : ℕ
+  pub bit : ℕ → ℕ → ℕ → Bool
+  pub tag : ℕ → ℕ → Bool
+  pub num : ℕ
+
+-- slices whose bits, tags and control number are all zero
+abbrev pub blank : ℕ → Slices
+blank columns = record { columns = columns; bit = λ sub row col. false; tag = λ sub col. false; num = 0 }
+
+-- subarray sub is in the set
+abbrev pub selected : ℕ → ℕ → Bool
+selected subs sub = eqb (bit_at subs sub) 1
+
+-- the place is one of the chain's
+abbrev pub placed : ℕ → ℕ → ℕ → Bool
+placed columns sub col = ltb sub 32 && ltb col columns
+
+-- each key's row has the wanted bit
+abbrev pub matches : (ℕ → Bool) → List (ℕ × Bool) → Bool
+matches bits [] = true
+matches bits (k ∷ ks) = beq (bits k.0) k.1 && matches bits ks
+
+-- In each selected subarray the tags become the match, or are or-ed with it.
+abbrev pub searched : ℕ → List (ℕ × Bool) → Bool → Slices → Slices
+searched subs keys join s = record {
+  columns = s.columns;
+  bit = s.bit;
+  tag = λ sub col. cond (placed s.columns sub col && selected subs sub) (matches (λ row. s.bit sub row col) keys || (join && s.tag sub col)) (s.tag sub col);
+  num = s.num;
+}
+
+-- The row of each selected subarray gets the bit in the tagged columns.
+abbrev pub updated : ℕ → ℕ → Bool → Slices → Slices
+updated subs row bit s = record {
+  columns = s.columns;
+  bit = λ sub r col. cond (placed s.columns sub col && selected subs sub && eqb r row && s.tag sub col) bit (s.bit sub r col);
+  tag = s.tag;
+  num = s.num;
+}
+
+-- The tags move `times` subarrays up or down; vacated ones become 0 and those that leave the chain are lost.
+abbrev pub passed : Bool → ℕ → Slices → Slices
+passed up times s = record {
+  columns = s.columns;
+  bit = s.bit;
+  tag = λ sub col. cond (placed s.columns sub col)
+      (cond up (leb times sub && s.tag (sub - times) col) (ltb (sub + times) 32 && s.tag (sub + times) col))
+      (s.tag sub col);
+  num = s.num;
+}
+
+-- One column of a row gets the bits of a word, bit s of the word in subarray s.
+abbrev pub word_written : ℕ → ℕ → ℕ → Slices → Slices
+word_written row at word s = record {
+  columns = s.columns;
+  bit = λ sub r col. cond (placed s.columns sub col && eqb r row && eqb col at) (eqb (bit_at word sub) 1) (s.bit sub r col);
+  tag = s.tag;
+  num = s.num;
+}
