@@ -1,0 +1,219 @@
+-- A list of steps acts on each element by itself.
+use Rattle.std.proofs.Common.{◌≡◌, ℕ, ◌+◌, ◌-◌, ◌*◌, ◌<◌, ◌≤◌, Bool, true, false, cond, ◌&&◌, ◌||◌, eqb, ltb, leb, List, [], ◌∷◌, ◌++◌, zero, suc, refl, sym, ◌∙◌, ap, arith, ⊎_elim}
+use Rattle.std.proofs.lemmas.Bool.{cases_lt, cases_Bool, lt-ltb, le-ltb, leb-true, le-leb, and_parts}
+use Rattle.micro_ir.proofs.Lists.{replay-append}
+use Rattle.micro_ir.proofs.Subs.{selected-of}
+use Rattle.cam_chain.specs.KeyPairs.{keys_of}
+use Rattle.cam_chain.specs.Slices.{Slices, placed, selected, matches, searched, updated, passed}
+use Rattle.micro_ir.specs.declared.op.MicroOp.{MicroOp}
+use Rattle.micro_ir.specs.declared.op.MicroOp.TheVariants.{Search, Update, Pass, Window}
+use Rattle.micro_ir.specs.Replay.{effect, replay, windowed}
+use Rattle.micro_ir.specs.Subs.{subs_of}
+use Rattle.micro_ir.specs.Steps.{Step, searches, fires, moved, source, pass_of, micro_from, micro, micros, Fits, AllFit, element, step_on, steps_on}
+
+-- searches leave the bits
+pub searches-bit : (subs : ℕ) (inputs : List ℕ) (join : Bool) (ts : List ℕ) (s : Slices) → (replay (searches subs inputs join ts) s).bit ≡ s.bit
+unfolding replay
+searches-bit subs inputs join [] s = refl
+searches-bit subs inputs join (t ∷ ts) s = searches-bit subs inputs true ts (searched subs (keys_of inputs t) join s)
+
+-- searches leave the columns
+pub searches-columns : (subs : ℕ) (inputs : List ℕ) (join : Bool) (ts : List ℕ) (s : Slices) → (replay (searches subs inputs join ts) s).columns ≡ s.columns
+unfolding replay
+searches-columns subs inputs join [] s = refl
+searches-columns subs inputs join (t ∷ ts) s = searches-columns subs inputs true ts (searched subs (keys_of inputs t) join s)
+
+or_swap : (f m t : Bool) → f || (m || t) ≡ (m || f) || t
+or_swap true true t = refl
+or_swap true false t = refl
+or_swap false true t = refl
+or_swap false false t = refl
+
+-- a tag after searches that join
+pub joined-tag : (subs : ℕ) (inputs : List ℕ) (ts : List ℕ) (s : Slices) (sub col : ℕ) → placed s.columns sub col ≡ true → selected subs sub ≡ true
+    → (replay (searches subs inputs true ts) s).tag sub col ≡ fires inputs ts (λ row. s.bit sub row col) || s.tag sub col
+unfolding replay
+joined-tag subs inputs [] s sub col p q = refl
+joined-tag subs inputs (t ∷ ts) s sub col p q =
+    joined-tag subs inputs ts (searched subs (keys_of inputs t) true s) sub col p q
+    ∙ rw (p, q) (or_swap (fires inputs ts (λ row. s.bit sub row col)) (matches (λ row. s.bit sub row col) (keys_of inputs t)) (s.tag sub col))
+
+or_turn : (f m : Bool) → f || (m || false) ≡ m || f
+or_turn true true = refl
+or_turn true false = refl
+or_turn false true = refl
+or_turn false false = refl
+
+-- a tag after searches of which the first does not join
+pub fresh-tag : (subs : ℕ) (inputs : List ℕ) (t : ℕ) (ts : List ℕ) (s : Slices) (sub col : ℕ) → placed s.columns sub col ≡ true → selected subs sub ≡ true
+    → (replay (searches subs inputs false (t ∷ ts)) s).tag sub col ≡ fires inputs (t ∷ ts) (λ row. s.bit sub row col)
+unfolding replay
+fresh-tag subs inputs t ts s sub col p q =
+    joined-tag subs inputs ts (searched subs (keys_of inputs t) false s) sub col p q
+    ∙ rw (p, q) (or_turn (fires inputs ts (λ row. s.bit sub row col)) (matches (λ row. s.bit sub row col) (keys_of inputs t)))
+
+place_true : (n sub col : ℕ) → sub < 32 → col < n → placed n sub col ≡ true
+place_true n sub col h q = rw (lt-ltb sub 32 h, lt-ltb col n q) refl
+
+-- the tags after the pass, where the output lies
+pub passed-tag : (up : Bool) (times k w j col : ℕ) (s : Slices) → k * w + w ≤ 32 → j < w → col < s.columns
+    → cond up (j - times) (j + times) < w → cond up times 0 ≤ j
+    → (replay (pass_of up times) s).tag (k * w + j) col ≡ s.tag (k * w + cond up (j - times) (j + times)) col
+unfolding replay
+passed-tag true zero k w j col s q h c a b = let e : j - 0 ≡ j = omega arith in rw e refl
+passed-tag false zero k w j col s q h c a b = let e : j + 0 ≡ j = omega arith in rw e refl
+passed-tag true (suc n) k w j col s q h c a b =
+    let p : placed s.columns (k * w + j) col ≡ true = place_true s.columns (k * w + j) col (omega arith) c in
+    let l : leb (suc n) (k * w + j) ≡ true = le-leb (suc n) (k * w + j) (omega arith) in
+    let e : k * w + j - suc n ≡ k * w + (j - suc n) = omega arith in
+    rw (p, l, e) refl
+passed-tag false (suc n) k w j col s q h c a b =
+    let p : placed s.columns (k * w + j) col ≡ true = place_true s.columns (k * w + j) col (omega arith) c in
+    let l : ltb (k * w + j + suc n) 32 ≡ true = lt-ltb (k * w + j + suc n) 32 (omega arith) in
+    let e : k * w + j + suc n ≡ k * w + (j + suc n) = omega arith in
+    rw (p, l, e) refl
+
+-- passes leave the bits
+pub passed-bit : (up : Bool) (times : ℕ) (s : Slices) → (replay (pass_of up times) s).bit ≡ s.bit
+unfolding replay
+passed-bit up zero s = refl
+passed-bit up (suc n) s = refl
+
+-- passes leave the columns
+pub passed-columns : (up : Bool) (times : ℕ) (s : Slices) → (replay (pass_of up times) s).columns ≡ s.columns
+unfolding replay
+passed-columns up zero s = refl
+passed-columns up (suc n) s = refl
+
+source_in_by : (up : Bool) (times : ℕ) (at : ℕ → Bool) (j : ℕ) → cond up (leb times j && at (j - times)) (at (j + times)) ≡ true → at (cond up (j - times) (j + times)) ≡ true
+source_in_by true times at j h = (and_parts (leb times j) (at (j - times)) h).1
+source_in_by false times at j h = h
+
+moved_fits_by : (w : ℕ) (up : Bool) (times : ℕ) (at : ℕ → Bool) (j : ℕ) →
+    ((i : ℕ) → at i ≡ true → (i < w) × (cond up (i + times) i < w) × (cond up 0 times ≤ i)) →
+    cond up (leb times j && at (j - times)) (at (j + times)) ≡ true →
+    (cond up (j - times) (j + times) < w) × (j < w) × (cond up times 0 ≤ j)
+moved_fits_by w true times at j f h =
+    let p = and_parts (leb times j) (at (j - times)) h in
+    let le : times ≤ j = leb-true times j p.0 in
+    let q = f (j - times) p.1 in
+    (q.0, omega (arith, q.1), le)
+moved_fits_by w false times at j f h =
+    let q = f (j + times) h in
+    (q.0, omega (arith, q.2), omega arith)
+
+-- the place of the inputs is one of the step's, where the output's is
+source_in : (w : ℕ) (step : Step) (j : ℕ) → moved step j ≡ true → step.at (source step j) ≡ true
+source_in w step j h = source_in_by step.up step.times step.at j h
+
+-- what Fits says at the place of the inputs, told at the place of the output
+moved_fits : (w : ℕ) (step : Step) (j : ℕ) → Fits w step → moved step j ≡ true →
+    (source step j < w) × (j < w) × (cond step.up step.times 0 ≤ j)
+moved_fits w step j f h = moved_fits_by w step.up step.times step.at j f h
+
+-- a guarded write, as the step tells it
+shape : (p sel m e t f b o : Bool) → p ≡ true → sel ≡ m → (m ≡ true → t ≡ f) → cond (p && sel && e && t) b o ≡ cond (e && m && f) b o
+shape p sel true true t f b o hp hs h = rw (hp, hs, h refl) refl
+shape p sel true false t f b o hp hs h = rw (hp, hs) refl
+shape p sel false true t f b o hp hs h = rw (hp, hs) refl
+shape p sel false false t f b o hp hs h = rw (hp, hs) refl
+
+-- an element at a place of its own
+pub element-inside : (w k col : ℕ) (s : Slices) (row j : ℕ) → j < w → element w k col s row j ≡ s.bit (k * w + j) row col
+unfolding element
+element-inside w k col s row j h = rw (lt-ltb j w h) refl
+
+-- an element at a place past its last
+pub element-outside : (w k col : ℕ) (s : Slices) (row j : ℕ) → w ≤ j → element w k col s row j ≡ false
+unfolding element
+element-outside w k col s row j h = rw (le-ltb j w h) refl
+
+-- one bit of an element after a step
+micro-bit : (w k col : ℕ) (step : Step) (t : ℕ) (ts : List ℕ) (s : Slices) → Fits w step → k * w + w ≤ 32 → col < s.columns → (row j : ℕ) → j < w
+    → (replay (micro_from w step (t ∷ ts)) s).bit (k * w + j) row col
+    ≡ cond (eqb row step.out && moved step j && fires step.inputs (t ∷ ts) (λ r. element w k col s r (source step j))) step.bit (s.bit (k * w + j) row col)
+unfolding replay
+micro-bit w k col step t ts s f q c row j h =
+    let found = searches (subs_of w step.at) step.inputs false (t ∷ ts) in
+    let shift = pass_of step.up step.times in
+    let last = Update (subs_of w (moved step)) step.out step.bit in
+    let s1 = replay found s in
+    let s2 = replay shift s1 in
+    let cols : s2.columns ≡ s.columns = passed-columns step.up step.times s1 ∙ searches-columns (subs_of w step.at) step.inputs false (t ∷ ts) s in
+    let bits : s2.bit ≡ s.bit = passed-bit step.up step.times s1 ∙ searches-bit (subs_of w step.at) step.inputs false (t ∷ ts) s in
+    let cols1 : s1.columns ≡ s.columns = searches-columns (subs_of w step.at) step.inputs false (t ∷ ts) s in
+    let e : replay (found ++ (shift ++ last ∷ [])) s ≡ effect last s2 = replay-append found (shift ++ last ∷ []) s ∙ replay-append shift (last ∷ []) s1 in
+    let old : s2.bit (k * w + j) row col ≡ s.bit (k * w + j) row col = ap (λ (g : ℕ → ℕ → ℕ → Bool). g (k * w + j) row col) bits in
+    ap (λ (z : Slices). z.bit (k * w + j) row col) e
+    ∙ rw old (shape (placed s2.columns (k * w + j) col) (selected (subs_of w (moved step)) (k * w + j)) (moved step j) (eqb row step.out) (s2.tag (k * w + j) col)
+    (fires step.inputs (t ∷ ts) (λ r. element w k col s r (source step j))) step.bit (s.bit (k * w + j) row col)
+    (rw cols (place_true s.columns (k * w + j) col (omega arith) c))
+    (selected-of w (moved step) k j h q)
+    (λ m.
+    let fit = moved_fits w step j f m in
+    let c1 : col < s1.columns = rw cols1 c in
+    let src : k * w + source step j < 32 = omega (arith, fit.0) in
+    let same : (λ (r : ℕ). s.bit (k * w + source step j) r col) ≡ (λ (r : ℕ). element w k col s r (source step j)) =
+    λ i r. sym (element-inside w k col s r (source step j) fit.0) i in
+    passed-tag step.up step.times k w j col s1 q h c1 fit.0 fit.2
+    ∙ (fresh-tag (subs_of w step.at) step.inputs t ts s (k * w + source step j) col
+    (place_true s.columns (k * w + source step j) col src c)
+    (selected-of w step.at k (source step j) fit.0 q ∙ source_in w step j m)
+    ∙ ap (λ (g : ℕ → Bool). fires step.inputs (t ∷ ts) g) same)))
+
+none_fires : (a : Bool) (b o : Bool) → cond (a && false) b o ≡ o
+none_fires true b o = refl
+none_fires false b o = refl
+
+-- no output lies past the element
+moved-outside : (w : ℕ) (step : Step) (j : ℕ) → Fits w step → w ≤ j → moved step j ≡ false
+moved-outside w step j f h =
+    ⊎_elim (λ (m : moved step j ≡ true). absurd (omega (arith, (moved_fits w step j f m).1))) (λ (m : moved step j ≡ false). m) (cases_Bool (moved step j))
+
+stays : (a m b o f : Bool) → m ≡ false → cond (a && m && f) b o ≡ o
+stays true m b o f h = rw h refl
+stays false m b o f h = refl
+
+-- one step, at one place of an element
+micro-place : (w k col : ℕ) (step : Step) (on : List ℕ) (s : Slices) → Fits w step → k * w + w ≤ 32 → col < s.columns → (row j : ℕ)
+    → element w k col (replay (micro_from w step on) s) row j
+    ≡ cond (eqb row step.out && moved step j && fires step.inputs on (λ r. element w k col s r (source step j))) step.bit (element w k col s row j)
+unfolding replay
+micro-place w k col step [] s f q c row j = sym (none_fires (eqb row step.out && moved step j) step.bit (element w k col s row j))
+micro-place w k col step (t ∷ ts) s f q c row j =
+    ⊎_elim
+    (λ (h : j < w).
+    element-inside w k col (replay (micro_from w step (t ∷ ts)) s) row j h
+    ∙ micro-bit w k col step t ts s f q c row j h
+    ∙ rw (element-inside w k col s row j h) refl)
+    (λ (h : w ≤ j).
+    element-outside w k col (replay (micro_from w step (t ∷ ts)) s) row j h
+    ∙ sym (stays (eqb row step.out) (moved step j) step.bit (element w k col s row j) (fires step.inputs (t ∷ ts) (λ r. element w k col s r (source step j))) (moved-outside w step j f h)
+    ∙ element-outside w k col s row j h))
+    (cases_lt j w)
+
+-- a step acts on each element by itself
+pub micro-element : (w k col : ℕ) (step : Step) (s : Slices) → Fits w step → k * w + w ≤ 32 → col < s.columns
+    → element w k col (replay (micro w step) s) ≡ step_on step (element w k col s)
+unfolding micro step_on
+micro-element w k col step s f q c = λ i row j. micro-place w k col step step.on s f q c row j i
+
+-- a replay leaves the columns
+pub replay-columns : (ops : List MicroOp) (s : Slices) → (replay ops s).columns ≡ s.columns
+unfolding replay
+replay-columns [] s = refl
+replay-columns (Search subs keys join ∷ ops) s = replay-columns ops (searched subs keys join s)
+replay-columns (Update subs row bit ∷ ops) s = replay-columns ops (updated subs row bit s)
+replay-columns (Pass up times ∷ ops) s = replay-columns ops (passed up times s)
+replay-columns (Window row width first from to masked ∷ ops) s = replay-columns ops (windowed row width first from to masked s)
+
+-- a list of steps acts on each element by itself
+pub micros-element : (w k col : ℕ) (steps : List Step) (s : Slices) → AllFit w steps → k * w + w ≤ 32 → col < s.columns
+    → element w k col (replay (micros w steps) s) ≡ steps_on steps (element w k col s)
+unfolding micros steps_on replay
+micros-element w k col [] s f q c = refl
+micros-element w k col (step ∷ steps) s f q c =
+    let c1 : col < (replay (micro w step) s).columns = rw (replay-columns (micro w step) s) c in
+    ap (element w k col) (replay-append (micro w step) (micros w steps) s)
+    ∙ micros-element w k col steps (replay (micro w step) s) f.1 q c1
+    ∙ ap (steps_on steps) (micro-element w k col step s f.0 q c)

@@ -1,0 +1,84 @@
+-- Lists of operations, joined or one operation longer.
+use Rattle.std.proofs.Common.{◌≡◌, ℕ, ◌+◌, ◌<◌, ◌≤◌, List, [], ◌∷◌, ◌++◌, zero, suc, length, get_or, take, refl, sym, ◌∙◌, ap, arith, add_assoc, zero-add, add-zero}
+use Rattle.std.proofs.lemmas.List.{take_more}
+use Rattle.cam_chain.specs.Slices.{Slices}
+use Rattle.cam_chain.specs.ChainValue.{no_counts}
+use Rattle.cam_chain.specs.declared.counts.Counts.{Counts}
+use Rattle.micro_ir.specs.declared.op.MicroOp.{MicroOp}
+use Rattle.micro_ir.specs.declared.op.MicroOp.TheVariants.{Search, Update, Pass, Window}
+use Rattle.micro_ir.specs.Replay.{effect, replay, IsInRange, AllInRange, counts_in, counts_and, tally}
+
+-- the replay of two lists, one after the other
+pub replay-append : (xs ys : List MicroOp) (s : Slices) → replay (xs ++ ys) s ≡ replay ys (replay xs s)
+unfolding replay
+replay-append [] ys s = refl
+replay-append (x ∷ xs) ys s = replay-append xs ys (effect x s)
+
+pub replay-one : (op : MicroOp) (s : Slices) → replay (op ∷ []) s ≡ effect op s
+unfolding replay
+replay-one op s = refl
+
+-- the replay of one operation more
+pub replay_more : (ops : List MicroOp) (i : ℕ) (op : MicroOp) (s : Slices) → i < length ops → op ≡ get_or ops i op → replay (take (i + 1) ops) s ≡ effect op (replay (take i ops) s)
+replay_more ops i op s h e = rw (take_more ops i op h, ← e) (replay-append (take i ops) (op ∷ []) s ∙ replay-one op (replay (take i ops) s))
+
+-- counts are added in any grouping
+pub counts_and-assoc : (a b c : Counts) → counts_and a (counts_and b c) ≡ counts_and (counts_and a b) c
+counts_and-assoc a b c = λ i. record {
+  searches = sym (add_assoc a.searches b.searches c.searches) i;
+  updates = sym (add_assoc a.updates b.updates c.updates) i;
+  passes = sym (add_assoc a.passes b.passes c.passes) i;
+}
+
+pub no_counts-and : (a : Counts) → counts_and no_counts a ≡ a
+no_counts-and a = λ i. record { searches = zero-add a.searches i; updates = zero-add a.updates i; passes = zero-add a.passes i }
+
+pub counts_and-none : (a : Counts) → counts_and a no_counts ≡ a
+counts_and-none a = λ i. record { searches = add-zero a.searches i; updates = add-zero a.updates i; passes = add-zero a.passes i }
+
+pub tally-none : tally [] ≡ no_counts
+unfolding tally
+tally-none = refl
+
+pub tally-one : (op : MicroOp) → tally (op ∷ []) ≡ counts_in op
+unfolding tally
+tally-one op = counts_and-none (counts_in op)
+
+-- the tally of two lists, one after the other
+pub tally-append : (xs ys : List MicroOp) → tally (xs ++ ys) ≡ counts_and (tally xs) (tally ys)
+unfolding tally
+tally-append [] ys = sym (no_counts-and (tally ys))
+tally-append (x ∷ xs) ys = ap (counts_and (counts_in x)) (tally-append xs ys) ∙ counts_and-assoc (counts_in x) (tally xs) (tally ys)
+
+-- the tally of one operation more
+pub tally_more : (ops : List MicroOp) (i : ℕ) (op : MicroOp) → i < length ops → op ≡ get_or ops i op → tally (take (i + 1) ops) ≡ counts_and (tally (take i ops)) (counts_in op)
+tally_more ops i op h e = rw (take_more ops i op h, ← e) (tally-append (take i ops) (op ∷ []) ∙ rw (tally-one op) refl)
+
+pub AllInRange-none : AllInRange []
+unfolding AllInRange
+AllInRange-none = tt
+
+pub AllInRange-one : (op : MicroOp) → IsInRange op → AllInRange (op ∷ [])
+unfolding AllInRange
+AllInRange-one op h = (h, tt)
+
+-- a chain can run two lists, one after the other
+pub AllInRange-append : (xs ys : List MicroOp) → AllInRange xs → AllInRange ys → AllInRange (xs ++ ys)
+unfolding AllInRange
+AllInRange-append [] ys p q = q
+AllInRange-append (x ∷ xs) ys p q = (p.0, AllInRange-append xs ys p.1 q)
+
+-- an operation of a front that a chain can run
+pub IsInRange-at : (n : ℕ) (ops : List MicroOp) (i : ℕ) (op : MicroOp) → AllInRange (take n ops) → i < n → i < length ops → op ≡ get_or ops i op → IsInRange op
+unfolding AllInRange
+IsInRange-at zero ops i op p h l e = absurd (omega arith)
+IsInRange-at (suc n) [] i op p h l e = absurd (omega arith)
+IsInRange-at (suc n) (x ∷ xs) zero op p h l e = rw e p.0
+IsInRange-at (suc n) (x ∷ xs) (suc i) op p h l e = IsInRange-at n xs i op p.1 (omega arith) (omega arith) e
+
+-- an operation that a chain can run counts little
+pub counts_in-few : (op : MicroOp) → IsInRange op → ((counts_in op).searches ≤ 31) × ((counts_in op).updates ≤ 31) × ((counts_in op).passes ≤ 31)
+counts_in-few (Search subs keys join) h = (omega arith, omega arith, omega arith)
+counts_in-few (Update subs row bit) h = (omega arith, omega arith, omega arith)
+counts_in-few (Pass up times) h = (omega arith, omega arith, h.1)
+counts_in-few (Window row width first from to masked) h = (omega arith, omega arith, omega arith)

@@ -1,0 +1,5 @@
+-- Micro-operations, their replay, and table steps.
+pub mod BufValue
+pub mod Replay
+pub mod Steps
+pub mod Subs

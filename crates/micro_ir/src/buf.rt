@@ -1,0 +1,104 @@
+ghost use Rattle.std.specs.Prelude.{◌≡◌, ◌+◌, ◌<◌, ◌≤◌, [], ◌∷◌, ◌++◌, length, IfOk};
+
+use crate::op::MicroOp;
+use std::alloc::{AllocError as NoMemory, Global};
+use std::marker::Model;
+
+/// A list of micro-operations, and how many more it has room for.
+#[derive(Drop)]
+pub struct MicroBuf {
+    ops: Vec<MicroOp>,
+    spare: u32,
+}
+
+impl Model for MicroBuf {
+    ghost use Rattle.std.specs.Prelude.{◌+◌, ◌≤◌, vec_len, vec_capacity};
+    ghost use Rattle.micro_ir.specs.BufValue.{BufValue};
+
+    ghost Value = { BufValue };
+
+    ghost view = { λ b. record { ops = b.ops.items; spare = b.spare } };
+
+    ghost invariant = { λ b. record {
+      has_room : vec_len b.ops + b.spare ≤ vec_capacity b.ops;
+      small : vec_len b.ops + b.spare ≤ 262144;
+    } };
+}
+
+impl MicroBuf {
+    /// A list of no operations with room for `cap`.
+    pub fn new(alloc: Global, cap: u32) -> Result<MicroBuf, NoMemory>
+        requires { cap ≤ 262144 }
+        ensures ops { IfOk result (λ b. b.ops ≡ []) }
+        ensures spare { IfOk result (λ b. b.spare ≡ cap) }
+    {
+        Ok(MicroBuf {
+            ops: Vec::with_capacity(alloc, cap as usize)?,
+            spare: cap,
+        })
+    }
+
+    /// Appends an operation. This takes no memory.
+    pub fn push(&mut self, op: MicroOp)
+        requires { 0 < self.old.spare }
+        ensures ops { self.new.ops ≡ self.old.ops ++ op ∷ [] }
+        ensures spare { self.new.spare + 1 ≡ self.old.spare }
+    {
+        match self.ops.push(op) {
+            Ok(()) => self.spare -= 1,
+            Err(_) => unreachable!(),
+        }
+    }
+
+    /// The operations in their order.
+    pub fn ops(&self) -> &[MicroOp]
+        ensures value { result.now ≡ self.now.ops }
+        ensures few { length result.now + self.now.spare ≤ 262144 }
+    {
+        self.ops.as_slice()
+    }
+
+    /// How many more operations there is room for.
+    pub fn spare(&self) -> u32
+        ensures { result ≡ self.now.spare }
+    {
+        self.spare
+    }
+
+    /// Drops the operations, and the room that they took is spare again. This neither takes nor
+    /// gives back memory.
+    pub fn clear(&mut self)
+        ensures ops { self.new.ops ≡ [] }
+        ensures spare { self.new.spare ≡ length self.old.ops + self.old.spare }
+    {
+        self.spare += self.ops.len() as u32;
+        self.ops.clear();
+    }
+}
+
+#[cfg(test)]
+mod tests {
+    use super::*;
+    use std::test::Fail;
+
+    #[test]
+    fn room_goes_down_and_comes_back(rt: HostRuntime) -> Result<(), Fail> {
+        let mut buf = MicroBuf::new(rt.alloc(), 2)?;
+        assert_eq!(rt; (buf.ops().len(), buf.spare()), (0, 2));
+        buf.push(MicroOp::Pass { up: true, times: 3 });
+        buf.push(MicroOp::Pass {
+            up: false,
+            times: 4,
+        });
+        assert_eq!(rt; (buf.ops().len(), buf.spare()), (2, 0));
+        for (op, want) in buf.ops().iter().zip([3, 4]) {
+            let MicroOp::Pass { up: _, times } = op else {
+                return Err("a pass".into());
+            };
+            assert_eq!(rt; *times, want);
+        }
+        buf.clear();
+        assert_eq!(rt; (buf.ops().len(), buf.spare()), (0, 2));
+        Ok(())
+    }
+}

@@ -1,0 +1,12 @@
+//! Micro-operations on a chain: lists of them, and their replay.
+#![tactic(auto)]
+
+mod buf;
+mod control;
+mod op;
+mod replaying;
+
+pub use buf::MicroBuf;
+pub use control::Control;
+pub use op::MicroOp;
+pub use replaying::replay;

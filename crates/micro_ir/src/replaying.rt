@@ -1,0 +1,140 @@
+ghost use Rattle.std.specs.Prelude.{◌≡◌, ℕ, ◌^◌, ◌<◌, ◌≤◌, ◌&&◌, false, eqb, nat_le, nat_lt, take, length};
+ghost use Rattle.std.specs.Int.{bit_at};
+ghost use Rattle.cam_chain.specs.ChainValue.{slices_of};
+ghost use Rattle.micro_ir.specs.Replay.{effect, replay, state_of, windowed, IsInRange, AllInRange, counts_in, counts_and, tally};
+
+use crate::buf::MicroBuf;
+use crate::control::Control;
+use crate::op::MicroOp;
+use cam_chain::Chain;
+
+/// Carries out the first `first` operations in their order. The chain counts their searches,
+/// updates and passes. No operation that is built changes a control number.
+pub fn replay(chain: &mut Chain, ctl: &mut Control, buf: &MicroBuf, first: u32)
+    requires within { first ≤ length buf.now.ops }
+    requires in_range { AllInRange (take first buf.now.ops) }
+    requires searches { chain.old.counts.searches ≤ 2 ^ 99 }
+    requires updates { chain.old.counts.updates ≤ 2 ^ 99 }
+    requires passes { chain.old.counts.passes ≤ 2 ^ 99 }
+    ensures slices { state_of chain.new ctl.new.num
+        ≡ replay (take first buf.now.ops) (state_of chain.old ctl.old.num) }
+    ensures control { ctl.new ≡ ctl.old }
+    ensures counted { chain.new.counts
+        ≡ counts_and chain.old.counts (tally (take first buf.now.ops)) }
+    ensures columns { chain.new.columns ≡ chain.old.columns }
+{
+    let ops = buf.ops();
+    for i in 0..first {
+        apply(chain, &ops[i as usize]);
+    }
+}
+
+/// Carries out one operation.
+fn apply(chain: &mut Chain, op: &MicroOp)
+    requires in_range { IsInRange op.now }
+    requires searches { chain.old.counts.searches < 2 ^ 100 }
+    requires updates { chain.old.counts.updates < 2 ^ 100 }
+    requires passes { chain.old.counts.passes < 2 ^ 100 }
+    ensures slices { (num : ℕ) → state_of chain.new num ≡ effect op.now (state_of chain.old num) }
+    ensures counted { chain.new.counts ≡ counts_and chain.old.counts (counts_in op.now) }
+    ensures columns { chain.new.columns ≡ chain.old.columns }
+{
+    match op {
+        MicroOp::Search { subs, keys, join } => chain.search(*subs, keys, *join),
+        MicroOp::Update { subs, row, bit } => chain.update(*subs, *row, *bit),
+        MicroOp::Pass { up, times } => chain.pass(*up, *times),
+        MicroOp::Window {
+            row,
+            width: _,
+            first,
+            from,
+            to,
+            masked: _,
+        } => write_window(chain, *row, *first, *from, *to),
+    }
+}
+
+/// Carries out a Window of elements of 32 bits, of which each column holds one, that is not masked.
+fn write_window(chain: &mut Chain, row: u8, first: u32, from: u32, to: u32)
+    requires { row < 64 }
+    ensures slices { slices_of chain.new
+        ≡ windowed row 32 first from to false (slices_of chain.old) }
+    ensures counted { chain.new.counts ≡ chain.old.counts }
+    ensures columns { chain.new.columns ≡ chain.old.columns }
+{
+    for col in 0..chain.columns() {
+        // The sum of two u32 may not fit one.
+        let word = window_word(first as u64 + col as u64, from, to);
+        chain.write_word(row, col, word);
+    }
+}
+
+/// All ones where the number is from `from` on and below `to`, and else zero.
+fn window_word(number: u64, from: u32, to: u32) -> u32
+    ensures { (s : ℕ) → s < 32
+        → eqb (bit_at result s) 1 ≡ (nat_le from number && nat_lt number to) }
+{
+    if from as u64 <= number && number < to as u64 {
+        u32::MAX
+    } else {
+        0
+    }
+}
+
+#[cfg(test)]
+mod tests {
+    use super::*;
+    use cam_chain::{Counts, Keys};
+    use std::test::Fail;
+
+    #[test]
+    fn windows_searches_and_updates_in_order(rt: HostRuntime) -> Result<(), Fail> {
+        let mut chain = Chain::new(rt.alloc(), 3)?;
+        let mut ctl = Control { num: 7, clip: true };
+        let mut buf = MicroBuf::new(rt.alloc(), 8)?;
+        // The elements have the numbers 10, 11 and 12.
+        buf.push(MicroOp::Window {
+            row: 40,
+            width: 32,
+            first: 10,
+            from: 11,
+            to: 12,
+            masked: false,
+        });
+        let inside = Keys::new(&[(40, true)]).ok_or("inside")?;
+        buf.push(MicroOp::Search {
+            subs: 0xffff_ffff,
+            keys: inside,
+            join: false,
+        });
+        buf.push(MicroOp::Pass { up: true, times: 2 });
+        buf.push(MicroOp::Update {
+            subs: 0xff,
+            row: 1,
+            bit: true,
+        });
+        buf.push(MicroOp::Window {
+            row: 1,
+            width: 32,
+            first: 0,
+            from: 0,
+            to: 3,
+            masked: false,
+        });
+        replay(&mut chain, &mut ctl, &buf, 4);
+        for (col, word) in [(0, 0), (1, 0xffff_ffff), (2, 0)] {
+            assert_eq!(rt; chain.read_word(40, col), word, "column {col}");
+        }
+        for (col, word) in [(0, 0), (1, 0xfc), (2, 0)] {
+            assert_eq!(rt; chain.read_word(1, col), word, "column {col}");
+        }
+        let made = Counts {
+            searches: 1,
+            updates: 1,
+            passes: 2,
+        };
+        assert_eq!(rt; chain.counts(), made);
+        assert_eq!(rt; ctl, Control { num: 7, clip: true });
+        Ok(())
+    }
+}
