@@ -1,0 +1,6 @@
+-- What a guest program means.
+pub mod Words
+pub mod Vectors
+pub mod States
+pub mod Images
+pub mod Texts

@@ -1,0 +1,74 @@
+//! What a guest program means: its words, the states of the machine, one step, a run and the texts about it. The
+//! definitions stand in specs/; the types here are those that both the definitions and the code name.
+#![tactic(auto)]
+
+/// The scalar instructions by their names (RISC-V unprivileged specification, RV32I).
+#[derive(Clone, Copy, Debug, PartialEq, Eq)]
+pub enum Op {
+    Addi,
+    Lui,
+    Ecall,
+}
+
+/// A scalar word taken apart. Registers are below 32; the immediate is sign-extended where the format says so.
+#[derive(Clone, Copy, Debug, PartialEq, Eq)]
+pub struct Instr {
+    pub op: Op,
+    pub rd: u8,
+    pub rs1: u8,
+    pub imm: u32,
+}
+
+/// The vector instructions by their names (RISC-V vector extension 1.0, sections 6 and 11).
+#[derive(Clone, Copy, Debug, PartialEq, Eq)]
+pub enum VOp {
+    Vsetivli,
+    VxorVv,
+    VmvVx,
+}
+
+/// A vector word taken apart. `vd` holds rd of a configuration word, and `vs1` the field of bits 19 to 15: a vector
+/// register, a scalar register or an immediate.
+#[derive(Clone, Copy, Debug, PartialEq, Eq)]
+pub struct VInstr {
+    pub op: VOp,
+    pub vd: u8,
+    pub vs1: u8,
+    pub vs2: u8,
+}
+
+/// What a word means.
+#[derive(Clone, Copy, Debug, PartialEq, Eq)]
+pub enum Meaning {
+    Scalar(Instr),
+    Vector(VInstr),
+}
+
+/// Whether a machine runs, and how it ended. `Unbuilt` is the end at an instruction that this simulator does not
+/// build yet.
+#[derive(Clone, Copy, Debug, PartialEq, Eq)]
+pub enum Mode {
+    Running,
+    Exited(u8),
+    Unbuilt,
+}
+
+/// What a vector instruction leaves in an agnostic element: its old value, or all ones.
+#[derive(Clone, Copy, Debug, PartialEq, Eq)]
+pub enum Policy {
+    Keep,
+    Ones,
+}
+
+/// The control registers: the vector ones, the length of a vector register in bits, and the number of retired
+/// instructions. `vtype` holds the bits of that register; bit 31 is vill.
+#[derive(Clone, Copy, Debug, PartialEq, Eq)]
+pub struct Csrs {
+    pub vstart: u32,
+    pub vxrm: u8,
+    pub vxsat: bool,
+    pub vl: u32,
+    pub vtype: u32,
+    pub vlen: u32,
+    pub retired: u64,
+}
