@@ -1,0 +1,4 @@
+pub mod OneElement
+pub mod Registers
+pub mod Realising
+pub mod Written

@@ -1,0 +1,3 @@
+-- The programs of vector instructions.
+pub mod Recipes
+pub mod Programs
