@@ -1,0 +1,105 @@
+-- Runs: they go on step by step, stop where the machine stops, and only add to what was put out.
+use Rattle.std.proofs.Common.{◌≡◌, ℕ, zero, suc, ◌+◌, ◌-◌, ◌<◌, ◌≤◌, Bool, true, false, List, [], ◌∷◌, ◌++◌, Option, Some, None, refl, sym, ap, ◌∙◌, append_assoc, append-nil, arith}
+use Rattle.rvv_meaning.specs.States.{Core, State, step, run, is_running}
+use Rattle.machine.specs.Moments.{Held, Moment, moment_after, moments}
+use Rattle.machine.specs.Views.{Shows, GoesBy, FaultsIn, GainsFront, IsFrontOf, RunsOn, shown_out, shown_err, gains_out, gains_err}
+use Rattle.machine.proofs.Showing.{shown_out-step, shown_err-step}
+
+front_same : (xs : List ℕ) → IsFrontOf xs xs
+front_same xs = ([], sym (append-nil xs))
+
+front_through : (xs ys zs : List ℕ) → IsFrontOf xs ys → IsFrontOf ys zs → IsFrontOf xs zs
+front_through xs ys zs (a, p) (b, q) = (a ++ b, rw (q, p) (append_assoc xs a b))
+
+-- what one state shows is a front of what another shows
+record Grows (merged : Bool) (s t : State) : Type 0 where
+  pub grows_out : IsFrontOf (shown_out merged s) (shown_out merged t)
+  pub grows_err : IsFrontOf (shown_err merged s) (shown_err merged t)
+
+grows_none : (merged : Bool) (s : State) → Grows merged s s
+grows_none merged s = record { grows_out = front_same (shown_out merged s); grows_err = front_same (shown_err merged s) }
+
+state_after : (m : Moment) → (moment_after m).state ≡ step m.state
+unfolding moment_after
+state_after m = refl
+
+grows_step : (merged : Bool) (m : Moment) → Grows merged m.state (moment_after m).state
+grows_step merged m =
+    rw (state_after m) record {
+      grows_out = (gains_out merged m.state.core, shown_out-step merged m.state);
+      grows_err = (gains_err merged m.state.core, shown_err-step merged m.state);
+    }
+
+grows_through : (merged : Bool) (s t u : State) → Grows merged s t → Grows merged t u → Grows merged s u
+grows_through merged s t u a b = record {
+  grows_out = front_through (shown_out merged s) (shown_out merged t) (shown_out merged u) a.grows_out b.grows_out;
+  grows_err = front_through (shown_err merged s) (shown_err merged t) (shown_err merged u) a.grows_err b.grows_err;
+}
+
+moments_running : (m : Moment) (n : ℕ) → is_running m.state.core.mode ≡ true → moments m (suc n) ≡ moments (moment_after m) n
+unfolding moments
+moments_running m n going = rw going refl
+
+moments_stopped : (m : Moment) (n : ℕ) → is_running m.state.core.mode ≡ false → moments m n ≡ m
+unfolding moments
+moments_stopped m zero stopped = refl
+moments_stopped m (suc n) stopped = rw stopped refl
+
+moments_none : (m : Moment) → moments m 0 ≡ m
+unfolding moments
+moments_none m = refl
+
+grows_run_by : (merged b : Bool) (m : Moment) (n : ℕ) → is_running m.state.core.mode ≡ b → ((t : Moment) → Grows merged t.state (moments t n).state) → Grows merged m.state (moments m (suc n)).state
+grows_run_by merged true m n going more =
+    rw (moments_running m n going) (grows_through merged m.state (moment_after m).state (moments (moment_after m) n).state (grows_step merged m) (more (moment_after m)))
+grows_run_by merged false m n stopped more = rw (moments_stopped m (suc n) stopped) (grows_none merged m.state)
+
+grows_run : (merged : Bool) (n : ℕ) (m : Moment) → Grows merged m.state (moments m n).state
+grows_run merged zero m = rw (moments_none m) (grows_none merged m.state)
+grows_run merged (suc n) m = grows_run_by merged (is_running m.state.core.mode) m n refl (grows_run merged n)
+
+module _ (n k : ℕ) (merged : Bool) (h0 h1 h2 : Held) (l0 l1 l2 o0 o1 o2 e0 e1 e2 : Option (List ℕ)) where
+  -- a step of the run
+  pub runs_step : RunsOn n (suc k) merged h0 h1 l0 l1 o0 o1 e0 e1 → is_running h1.core.mode ≡ true → GoesBy moment_after merged h1 h2 l1 l2 o1 o2 e1 e2 → RunsOn n k merged h0 h2 l0 l2 o0 o2 e0 e2
+  runs_step on going goes = λ m fo fe shows.
+      let w = on m fo fe shows in
+      (moment_after w.0, goes w.0 fo fe w.1, rw (w.2, moments_running w.0 k (rw w.1.holds going)) refl)
+
+  -- the run is over at a step that stops
+  pub runs_last : RunsOn n (suc k) merged h0 h1 l0 l1 o0 o1 e0 e1 → is_running h1.core.mode ≡ true → GoesBy moment_after merged h1 h2 l1 l2 o1 o2 e1 e2 → is_running h2.core.mode ≡ false → GoesBy (λ m. moments m n) merged h0 h2 l0 l2 o0 o2 e0 e2
+  runs_last on going goes stopped = λ m fo fe shows.
+      let w = on m fo fe shows in
+      let after = goes w.0 fo fe w.1 in
+      rw (w.2, moments_running w.0 k (rw w.1.holds going), moments_stopped (moment_after w.0) k (rw after.holds stopped)) after
+
+  -- a step of the run that fails
+  pub runs_fault : RunsOn n (suc k) merged h0 h1 l0 l1 o0 o1 e0 e1 → is_running h1.core.mode ≡ true → FaultsIn moment_after merged h1 l1 o1 o2 e1 e2 → FaultsIn (λ m. moments m n) merged h0 l0 o0 o2 e0 e2
+  runs_fault on going faults = λ m fo fe shows.
+      let w = on m fo fe shows in
+      let f = faults w.0 fo fe w.1 in
+      let grown = grows_run merged k (moment_after w.0) in
+      rw (w.2, moments_running w.0 k (rw w.1.holds going)) (
+        (f.0.0, f.0.1, front_through f.0.0 (shown_out merged (moment_after w.0).state) (shown_out merged (moments (moment_after w.0) k).state) f.0.2 grown.grows_out),
+        (f.1.0, f.1.1, front_through f.1.0 (shown_err merged (moment_after w.0).state) (shown_err merged (moments (moment_after w.0) k).state) f.1.2 grown.grows_err),
+      )
+
+-- the run is over after its last step
+pub runs_done : (n : ℕ) (merged : Bool) (h0 h1 : Held) (l0 l1 o0 o1 e0 e1 : Option (List ℕ)) → RunsOn n 0 merged h0 h1 l0 l1 o0 o1 e0 e1 → GoesBy (λ m. moments m n) merged h0 h1 l0 l1 o0 o1 e0 e1
+runs_done n merged h0 h1 l0 l1 o0 o1 e0 e1 on = λ m fo fe shows.
+    let w = on m fo fe shows in
+    rw (w.2, moments_none w.0) w.1
+
+-- before the first step
+pub runs_first : (n : ℕ) (merged : Bool) (h : Held) (l o e : Option (List ℕ)) → RunsOn n n merged h h l l o o e e
+runs_first n merged h l o e = λ m fo fe shows. (m, shows, refl)
+
+-- the state of the moments is the run of the state
+state_run_by : (b : Bool) (m : Moment) (n : ℕ) → is_running m.state.core.mode ≡ b → ((t : Moment) → (moments t n).state ≡ run t.state n) → (moments m (suc n)).state ≡ run m.state (suc n)
+unfolding moments run
+state_run_by true m n going more = rw going (more (moment_after m) ∙ ap (λ (s : State). run s n) (state_after m))
+state_run_by false m n stopped more = rw stopped refl
+
+pub state_run : (n : ℕ) (m : Moment) → (moments m n).state ≡ run m.state n
+unfolding moments run
+state_run zero m = refl
+state_run (suc n) m = state_run_by (is_running m.state.core.mode) m n refl (state_run n)

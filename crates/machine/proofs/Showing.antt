@@ -1,0 +1,70 @@
+-- Objects that go on showing a moment.
+use Rattle.std.proofs.Common.{◌≡◌, ℕ, Bool, true, false, List, [], ◌∷◌, ◌++◌, Option, Some, None, refl, sym, ap, ◌∙◌, append_assoc, append-nil, take, drop}
+use Rattle.std.specs.Prelude.{if◌then◌else◌}
+use Rattle.std.specs.Io.KnownBytes.{Appends}
+use Rattle.std.proofs.lemmas.List.{take-append-drop}
+use Rattle.cape_io.specs.Devices.{PutsFront}
+use Rattle.cam_chain.specs.ChainValue.{slices_of}
+use Rattle.rvv_meaning.specs.States.{Core, State, step, puts, put_on, core_after}
+use Rattle.machine.specs.Moments.{Held, Moment, moment_after, program_at, slices_by, last_by}
+use Rattle.machine.specs.Views.{Shows, GoesBy, FaultsIn, GainsFront, IsFrontOf, shown_out, shown_err, gains_out, gains_err}
+use Rattle.machine.specs.Carrying.{Carries, Fails}
+
+-- bytes that were gained, and then more
+pub appends_more : (first mid last : Option (List ℕ)) (xs ys : List ℕ) → Appends first mid xs → Appends mid last ys → Appends first last (xs ++ ys)
+appends_more None mid last xs ys a b = tt
+appends_more (Some f) None last xs ys a b = absurd a
+appends_more (Some f) (Some m) None xs ys a b = absurd b
+appends_more (Some f) (Some m) (Some l) xs ys a b = rw (b, a) (append_assoc f xs ys)
+
+-- what the sinks gain of a state grows by what they gain in a step
+pub shown_out-step : (merged : Bool) (s : State) → shown_out merged (step s) ≡ shown_out merged s ++ gains_out merged s.core
+unfolding step
+shown_out-step true s = refl
+shown_out-step false s = refl
+
+pub shown_err-step : (merged : Bool) (s : State) → shown_err merged (step s) ≡ shown_err merged s ++ gains_err merged s.core
+unfolding step
+shown_err-step true s = refl
+shown_err-step false s = refl
+
+input-step : (s : State) → (step s).input ≡ s.input
+unfolding step
+input-step s = refl
+
+core-step : (s : State) → (step s).core ≡ core_after s.core
+unfolding step
+core-step s = refl
+
+-- a step that was carried out is a step of what the objects show
+pub goes_carried : (merged : Bool) (old new : Held) (left out out' err err' : Option (List ℕ)) → Carries merged old new out out' err err' → GoesBy moment_after merged old new left left out out' err err'
+unfolding moment_after
+goes_carried merged old new left out out' err err' w = λ m first_out first_err shows.
+    record {
+      holds = core-step m.state ∙ rw shows.holds (sym w.core);
+      slices = rw (shows.holds, shows.slices) (sym w.slices);
+      last = rw shows.holds (sym w.last);
+      told = rw (input-step m.state) shows.told;
+      gained_out = rw (shown_out-step merged m.state, shows.holds) (appends_more first_out out out' (shown_out merged m.state) (gains_out merged old.core) shows.gained_out w.gained_out);
+      gained_err = rw (shown_err-step merged m.state, shows.holds) (appends_more first_err err err' (shown_err merged m.state) (gains_err merged old.core) shows.gained_err w.gained_err);
+    }
+
+front_put : (first mid last : Option (List ℕ)) (xs ys : List ℕ) → Appends first mid xs → PutsFront mid last ys → GainsFront first last (xs ++ ys)
+front_put first mid last xs ys gained put =
+    (xs ++ take put.0 ys, appends_more first mid last xs (take put.0 ys) gained put.2, (drop put.0 ys, (ap (λ zs. xs ++ zs) (sym (take-append-drop put.0 ys))) ∙ sym (append_assoc xs (take put.0 ys) (drop put.0 ys))))
+
+-- a step that failed left a front of what the step gives
+pub faults_failed : (merged : Bool) (old : Held) (left out out' err err' : Option (List ℕ)) → Fails merged old out out' err err' → FaultsIn moment_after merged old left out out' err err'
+unfolding moment_after
+faults_failed merged old left out out' err err' w = λ m first_out first_err shows. (
+  rw (shown_out-step merged m.state, shows.holds) (front_put first_out out out' (shown_out merged m.state) (gains_out merged old.core) shows.gained_out w.front_out),
+  rw (shown_err-step merged m.state, shows.holds) (front_put first_err err err' (shown_err merged m.state) (gains_err merged old.core) shows.gained_err w.front_err),
+)
+
+-- the program of the step before plays no part in a step
+pub carries_forgotten : (merged : Bool) (old new : Held) (out out' err err' : Option (List ℕ)) → Carries merged (record old { last = [] }) new out out' err err' → Carries merged old new out out' err err'
+carries_forgotten merged old new out out' err err' w =
+    record { core = w.core; slices = w.slices; last = w.last; live = w.live; gained_out = w.gained_out; gained_err = w.gained_err }
+
+pub fails_forgotten : (merged : Bool) (old : Held) (out out' err err' : Option (List ℕ)) → Fails merged (record old { last = [] }) out out' err err' → Fails merged old out out' err err'
+fails_forgotten merged old out out' err err' w = record { front_out = w.front_out; front_err = w.front_err }

@@ -1,0 +1,12 @@
+use Rattle.machine.proofs.Showing.{goes_carried, faults_failed, carries_forgotten, fails_forgotten}
+use Rattle.machine.proofs.core_state.Machine.step.Goals as goal
+
+pub returns-in-Ok-clause-goes : goal.returns-in-Ok-clause-goes
+returns-in-Ok-clause-goes g c =
+    goes_carried c.args.merged c.args.self.now c.carry_out.new.self _ _ _ _ _
+    (carries_forgotten c.args.merged c.args.self.now c.carry_out.new.self _ _ _ _ (rw c.forget.ensures at c.in-Ok.ensures.carries))
+
+pub returns-in-Err-clause-fronts : goal.returns-in-Err-clause-fronts
+returns-in-Err-clause-fronts g c =
+    faults_failed c.args.merged c.args.self.now _ _ _ _ _
+    (fails_forgotten c.args.merged c.args.self.now _ _ _ _ (rw c.forget.ensures at c.in-Err.ensures.fails))

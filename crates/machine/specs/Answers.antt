@@ -1,0 +1,12 @@
+-- How a machine answers.
+use Rattle.std.specs.Prelude.{ℕ}
+use Rattle.rvv_meaning.specs.declared.Mode.{Mode}
+use Rattle.rvv_meaning.specs.declared.Mode.TheVariants.{Running, Exited, Unbuilt}
+use Rattle.machine.specs.declared.answers.Step.{Step}
+use Rattle.machine.specs.declared.answers.Step.TheVariants.{Ran, Exited as SaysExited, Unbuilt as SaysUnbuilt}
+
+-- the answer for a mode
+abbrev pub answer_of : Mode → Step
+answer_of Running = Ran
+answer_of (Exited c) = SaysExited c
+answer_of Unbuilt = SaysUnbuilt

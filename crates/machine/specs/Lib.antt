@@ -1,0 +1,6 @@
+-- What the machine's contracts cite beside the definitions of what a program means.
+pub mod Moments
+pub mod Views
+pub mod Answers
+pub mod Fields
+pub mod Carrying

@@ -1,0 +1,191 @@
+// Steps of a machine over memory. The words and what they leave are worked out by hand.
+ghost use Rattle.std.specs.Prelude.{◌≡◌, ◌≤◌, IfOk, length, true};
+ghost use Rattle.rvv_meaning.specs.declared.Mode.TheVariants.{Running};
+
+use crate::{Loaded, Machine, Step};
+use cape_io::{MemSink, MemSource};
+use micro_ir::MicroOp;
+use rvv_meaning::Policy;
+use std::alloc::Global;
+use std::test::Fail;
+
+// addi x10, x0, 7; vsetivli x0, 4, e32, m1, ta, ma; vmv.v.x v1, x10; vxor.vv v2, v1, v1; addi x17, x0, 93; ecall
+const SPLAT: [u32; 6] = [
+    0x00700513, 0xcd027057, 0x5e0540d7, 0x2e108157, 0x05d00893, 0x00000073,
+];
+
+// A machine at the first of these words.
+fn machine_of(alloc: Global, words: &[u32]) -> Result<Machine, Fail>
+    requires { length words.now ≤ 1000 }
+    ensures live { IfOk result (λ machine. machine.live ≡ true) }
+    ensures running { IfOk result (λ machine. machine.core.mode ≡ Running) }
+    ensures fresh { IfOk result (λ machine. machine.core.csrs.retired ≡ 0) }
+    ensures length { IfOk result (λ machine. machine.core.csrs.vlen ≡ 1024) }
+{
+    let mut bytes = Vec::new(alloc);
+    for word in words {
+        bytes.extend_from_slice(word.to_le_bytes().as_slice())?;
+    }
+    let loaded = Loaded {
+        entry_pc: 0x10000,
+        bytes,
+    };
+    Ok(Machine::new(alloc, loaded, 1024, Policy::Keep)?)
+}
+
+// A search or an update, as its fields stand in the operation.
+#[derive(Drop)]
+enum Wanted {
+    Search(u32, &'static [(u8, bool)], bool),
+    Update(u32, u8, bool),
+    Window(u8, u32, u32),
+}
+
+// Whether the operation is the one that is wanted.
+fn is_wanted(op: &MicroOp, wanted: &Wanted) -> bool {
+    match (op, wanted) {
+        (MicroOp::Search { subs, keys, join }, Wanted::Search(set, pairs, joins)) => {
+            *subs == *set && keys.as_slice() == *pairs && *join == *joins
+        }
+        (MicroOp::Update { subs, row, bit }, Wanted::Update(set, place, value)) => {
+            *subs == *set && *row == *place && *bit == *value
+        }
+        (
+            MicroOp::Window {
+                row,
+                width,
+                first,
+                from,
+                to,
+                masked,
+            },
+            Wanted::Window(place, start, end),
+        ) => {
+            *row == *place
+                && *width == 32
+                && *first == 0
+                && *from == *start
+                && *to == *end
+                && !*masked
+        }
+        _ => false,
+    }
+}
+
+#[test]
+fn an_exclusive_or_of_one_register_makes_ten_operations(rt: HostRuntime) -> Result<(), Fail> {
+    let alloc = rt.alloc();
+    let mut machine = machine_of(alloc, &SPLAT)?;
+    let mut input = MemSource::new(alloc, &[], 1, &[])?;
+    let mut out = MemSink::new(alloc, 10, &[])?;
+    let mut err = MemSink::new(alloc, 10, &[])?;
+    let answer = machine
+        .run(4, &mut input, &mut out, &mut err, false)
+        .ok()
+        .ok_or("no fault")?;
+    assert_eq!(rt; answer, Step::Ran);
+    let wanted = [
+        Wanted::Window(32, 0, 4),
+        Wanted::Search(u32::MAX, &[], false),
+        Wanted::Update(u32::MAX, 36, false),
+        Wanted::Search(u32::MAX, &[(36, true)], false),
+        Wanted::Search(u32::MAX, &[(36, true)], true),
+        Wanted::Update(u32::MAX, 36, true),
+        Wanted::Search(u32::MAX, &[(32, true), (36, true)], false),
+        Wanted::Update(u32::MAX, 2, true),
+        Wanted::Search(u32::MAX, &[(32, true), (36, false)], false),
+        Wanted::Update(u32::MAX, 2, false),
+    ];
+    let ops = machine.last().ops();
+    assert_eq!(rt; ops.len(), 10);
+    for (op, wanted) in ops.iter().zip(wanted.iter()) {
+        assert!(rt; is_wanted(op, wanted));
+    }
+    Ok(())
+}
+
+#[test]
+fn the_slices_hold_the_splat(rt: HostRuntime) -> Result<(), Fail> {
+    let alloc = rt.alloc();
+    let mut machine = machine_of(alloc, &SPLAT)?;
+    let mut input = MemSource::new(alloc, &[], 1, &[])?;
+    let mut out = MemSink::new(alloc, 10, &[])?;
+    let mut err = MemSink::new(alloc, 10, &[])?;
+    let answer = machine
+        .run(9, &mut input, &mut out, &mut err, false)
+        .ok()
+        .ok_or("no fault")?;
+    assert_eq!(rt; answer, Step::Exited(7));
+    assert_eq!(rt; machine.last().ops().len(), 0, "a call has no program");
+    let counts = machine.counts();
+    assert_eq!(rt;
+        (counts.searches, counts.updates, counts.passes),
+        (11, 10, 0)
+    );
+    for j in 0..20 {
+        let byte = if j < 16 && j % 4 == 0 { 7 } else { 0 };
+        assert_eq!(rt; machine.vreg_byte(1, j), byte, "byte {j} of v1");
+        assert_eq!(rt; machine.vreg_byte(2, j), 0, "byte {j} of v2");
+    }
+    assert!(rt; machine.chain().row(0, 32).get(3), "element 3 is active");
+    assert!(rt; !machine.chain().row(0, 32).get(4), "element 4 is not");
+    Ok(())
+}
+
+#[test]
+fn the_last_program_is_that_of_the_last_step(rt: HostRuntime) -> Result<(), Fail> {
+    let alloc = rt.alloc();
+    for (steps, length) in [(0, 0), (1, 0), (2, 0), (3, 13), (4, 10), (5, 0), (6, 0)] {
+        let mut machine = machine_of(alloc, &SPLAT)?;
+        let mut input = MemSource::new(alloc, &[], 1, &[])?;
+        let mut out = MemSink::new(alloc, 10, &[])?;
+        let mut err = MemSink::new(alloc, 10, &[])?;
+        assert!(rt; steps < 10);
+        let answer = machine.run(steps, &mut input, &mut out, &mut err, false);
+        assert!(rt; answer.is_ok());
+        assert_eq!(rt; machine.last().ops().len(), length, "after {steps} steps");
+        assert_eq!(rt; machine.retired(), steps);
+    }
+    Ok(())
+}
+
+// It writes two bytes of its own words to the output, and exits.
+const WRITE: [u32; 6] = [
+    0x00100513, 0x000105b7, 0x00200613, 0x04000893, 0x00000073, 0x00000000,
+];
+
+#[test]
+fn a_put_that_fails_leaves_the_machine_dead(rt: HostRuntime) -> Result<(), Fail> {
+    let alloc = rt.alloc();
+    for (merged, out_len, err_len) in [(false, 1, 0), (true, 0, 1)] {
+        let mut machine = machine_of(alloc, &WRITE)?;
+        let mut input = MemSource::new(alloc, &[], 1, &[])?;
+        let mut out = MemSink::new(alloc, 10, &[(0, 1)])?;
+        let mut err = MemSink::new(alloc, 10, &[(0, 1)])?;
+        let answer = machine.run(9, &mut input, &mut out, &mut err, merged);
+        assert!(rt; answer.is_err());
+        assert!(rt; !machine.live());
+        assert_eq!(rt; machine.retired(), 4);
+        assert_eq!(rt; machine.pc(), 0x10010);
+        assert_eq!(rt; out.bytes().len(), out_len);
+        assert_eq!(rt; err.bytes().len(), err_len);
+    }
+    Ok(())
+}
+
+#[test]
+fn a_write_stops_at_what_is_not_built(rt: HostRuntime) -> Result<(), Fail> {
+    let alloc = rt.alloc();
+    let mut machine = machine_of(alloc, &WRITE)?;
+    let mut input = MemSource::new(alloc, &[], 1, &[])?;
+    let mut out = MemSink::new(alloc, 10, &[])?;
+    let mut err = MemSink::new(alloc, 10, &[])?;
+    let answer = machine
+        .run(9, &mut input, &mut out, &mut err, false)
+        .ok()
+        .ok_or("no fault")?;
+    assert_eq!(rt; answer, Step::Unbuilt);
+    assert_eq!(rt; out.bytes(), [0x13, 0x05].as_slice());
+    assert_eq!(rt; machine.retired(), 5);
+    Ok(())
+}
