@@ -474,7 +474,7 @@ impl Machine {
         requires count { self.old.core.csrs.retired < 2 ^ 63 }
         ensures carries { OnOk result (Carries merged self.old self.new (O.held out.old) (O.held out.new) (E.held err.old) (E.held err.new)) }
         ensures count { OnOk result (self.new.core.csrs.retired ≤ self.old.core.csrs.retired + 1) }
-        ensures length { OnOk result (self.new.core.csrs.vlen ≡ self.old.core.csrs.vlen) }
+        ensures length { self.new.core.csrs.vlen ≡ self.old.core.csrs.vlen }
         ensures kept { OnErr result (self.new ≡ self.old) }
         ensures fails { OnErr result (Fails merged self.old (O.held out.old) (O.held out.new) (E.held err.old) (E.held err.new)) }
         ensures cause { IsErrOf result DeviceFault.WriteFault → MatchBool merged (Rose (E.faults err.old) (E.faults err.new)) (Rose (O.faults out.old) (O.faults out.new)) }
@@ -524,7 +524,7 @@ impl Machine {
         ensures carries { OnOk result (Carries merged self.old self.new (O.held out.old) (O.held out.new) (E.held err.old) (E.held err.new)) }
         ensures live { OnOk result (self.new.live ≡ true) }
         ensures count { OnOk result (self.new.core.csrs.retired ≤ self.old.core.csrs.retired + 1) }
-        ensures length { OnOk result (self.new.core.csrs.vlen ≡ self.old.core.csrs.vlen) }
+        ensures length { self.new.core.csrs.vlen ≡ self.old.core.csrs.vlen }
         ensures answer { IfOk result (λ answer. answer ≡ answer_of self.new.core.mode) }
 
         // The moment after is that of one step from the moment before.
@@ -566,7 +566,7 @@ impl Machine {
         ensures goes { OnOk result (GoesBy (λ m. moments m n) merged self.old self.new (S.left input.old) (S.left input.new) (O.held out.old) (O.held out.new) (E.held err.old) (E.held err.new)) }
         ensures live { OnOk result (self.new.live ≡ true) }
         ensures count { OnOk result (self.new.core.csrs.retired ≤ self.old.core.csrs.retired + n) }
-        ensures length { OnOk result (self.new.core.csrs.vlen ≡ self.old.core.csrs.vlen) }
+        ensures length { self.new.core.csrs.vlen ≡ self.old.core.csrs.vlen }
         ensures answer { IfOk result (λ answer. answer ≡ answer_of self.new.core.mode) }
         ensures fronts { OnErr result (FaultsIn (λ m. moments m n) merged self.old (S.left input.old) (O.held out.old) (O.held out.new) (E.held err.old) (E.held err.new)) }
         ensures cause { IsErrOf result DeviceFault.WriteFault → MatchBool merged (Rose (E.faults err.old) (E.faults err.new)) (Rose (O.faults out.old) (O.faults out.new)) }

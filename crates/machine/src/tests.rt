@@ -1,6 +1,5 @@
 // Steps of a machine over memory. The words and what they leave are worked out by hand.
-ghost use Rattle.std.specs.Prelude.{◌≡◌, ◌≤◌, IfOk, length, true};
-ghost use Rattle.rvv_meaning.specs.declared.Mode.TheVariants.{Running};
+ghost use Rattle.std.specs.Prelude.{◌≡◌, ◌≤◌, IfOk, length};
 
 use crate::{Loaded, Machine, Step};
 use cape_io::{MemSink, MemSource};
@@ -14,13 +13,30 @@ const SPLAT: [u32; 6] = [
     0x00700513, 0xcd027057, 0x5e0540d7, 0x2e108157, 0x05d00893, 0x00000073,
 ];
 
-// A machine at the first of these words.
-fn machine_of(alloc: Global, words: &[u32]) -> Result<Machine, Fail>
-    requires { length words.now ≤ 1000 }
-    ensures live { IfOk result (λ machine. machine.live ≡ true) }
-    ensures running { IfOk result (λ machine. machine.core.mode ≡ Running) }
-    ensures fresh { IfOk result (λ machine. machine.core.csrs.retired ≡ 0) }
-    ensures length { IfOk result (λ machine. machine.core.csrs.vlen ≡ 1024) }
+// It writes two bytes of its own words to the output, and meets zeros.
+const WRITE: [u32; 6] = [
+    0x00100513, 0x000105b7, 0x00200613, 0x04000893, 0x00000073, 0x00000000,
+];
+
+// A machine after some steps from the first of its words, its answer, and what its sinks hold.
+#[derive(Drop)]
+struct Ran {
+    machine: Machine,
+    answer: Option<Step>,
+    out: Vec<u8>,
+    err: Vec<u8>,
+}
+
+// Both sinks fail at the puts that are listed. There is no answer where one did.
+fn run_of(
+    alloc: Global,
+    words: &[u32; 6],
+    steps: u64,
+    merged: bool,
+    fails: &[(u64, usize)],
+) -> Result<Ran, Fail>
+    requires { steps ≤ 10 }
+    ensures { IfOk result (λ ran. ran.machine.core.csrs.vlen ≡ 1024) }
 {
     let mut bytes = Vec::new(alloc);
     for word in words {
@@ -30,7 +46,19 @@ fn machine_of(alloc: Global, words: &[u32]) -> Result<Machine, Fail>
         entry_pc: 0x10000,
         bytes,
     };
-    Ok(Machine::new(alloc, loaded, 1024, Policy::Keep)?)
+    let mut machine = Machine::new(alloc, loaded, 1024, Policy::Keep)?;
+    let mut input = MemSource::new(alloc, &[], 1, &[])?;
+    let mut out = MemSink::new(alloc, 10, fails)?;
+    let mut err = MemSink::new(alloc, 10, fails)?;
+    let answer = machine
+        .run(steps, &mut input, &mut out, &mut err, merged)
+        .ok();
+    Ok(Ran {
+        machine,
+        answer,
+        out: Vec::from_slice(alloc, out.bytes())?,
+        err: Vec::from_slice(alloc, err.bytes())?,
+    })
 }
 
 // A search or an update, as its fields stand in the operation.
@@ -74,16 +102,8 @@ fn is_wanted(op: &MicroOp, wanted: &Wanted) -> bool {
 
 #[test]
 fn an_exclusive_or_of_one_register_makes_ten_operations(rt: HostRuntime) -> Result<(), Fail> {
-    let alloc = rt.alloc();
-    let mut machine = machine_of(alloc, &SPLAT)?;
-    let mut input = MemSource::new(alloc, &[], 1, &[])?;
-    let mut out = MemSink::new(alloc, 10, &[])?;
-    let mut err = MemSink::new(alloc, 10, &[])?;
-    let answer = machine
-        .run(4, &mut input, &mut out, &mut err, false)
-        .ok()
-        .ok_or("no fault")?;
-    assert_eq!(rt; answer, Step::Ran);
+    let ran = run_of(rt.alloc(), &SPLAT, 4, false, &[])?;
+    assert_eq!(rt; ran.answer, Some(Step::Ran));
     let wanted = [
         Wanted::Window(32, 0, 4),
         Wanted::Search(u32::MAX, &[], false),
@@ -96,7 +116,7 @@ fn an_exclusive_or_of_one_register_makes_ten_operations(rt: HostRuntime) -> Resu
         Wanted::Search(u32::MAX, &[(32, true), (36, false)], false),
         Wanted::Update(u32::MAX, 2, false),
     ];
-    let ops = machine.last().ops();
+    let ops = ran.machine.last().ops();
     assert_eq!(rt; ops.len(), 10);
     for (op, wanted) in ops.iter().zip(wanted.iter()) {
         assert!(rt; is_wanted(op, wanted));
@@ -106,16 +126,9 @@ fn an_exclusive_or_of_one_register_makes_ten_operations(rt: HostRuntime) -> Resu
 
 #[test]
 fn the_slices_hold_the_splat(rt: HostRuntime) -> Result<(), Fail> {
-    let alloc = rt.alloc();
-    let mut machine = machine_of(alloc, &SPLAT)?;
-    let mut input = MemSource::new(alloc, &[], 1, &[])?;
-    let mut out = MemSink::new(alloc, 10, &[])?;
-    let mut err = MemSink::new(alloc, 10, &[])?;
-    let answer = machine
-        .run(9, &mut input, &mut out, &mut err, false)
-        .ok()
-        .ok_or("no fault")?;
-    assert_eq!(rt; answer, Step::Exited(7));
+    let ran = run_of(rt.alloc(), &SPLAT, 9, false, &[])?;
+    assert_eq!(rt; ran.answer, Some(Step::Exited(7)));
+    let machine = &ran.machine;
     assert_eq!(rt; machine.last().ops().len(), 0, "a call has no program");
     let counts = machine.counts();
     assert_eq!(rt;
@@ -127,65 +140,42 @@ fn the_slices_hold_the_splat(rt: HostRuntime) -> Result<(), Fail> {
         assert_eq!(rt; machine.vreg_byte(1, j), byte, "byte {j} of v1");
         assert_eq!(rt; machine.vreg_byte(2, j), 0, "byte {j} of v2");
     }
-    assert!(rt; machine.chain().row(0, 32).get(3), "element 3 is active");
-    assert!(rt; !machine.chain().row(0, 32).get(4), "element 4 is not");
     Ok(())
 }
 
 #[test]
 fn the_last_program_is_that_of_the_last_step(rt: HostRuntime) -> Result<(), Fail> {
-    let alloc = rt.alloc();
     for (steps, length) in [(0, 0), (1, 0), (2, 0), (3, 13), (4, 10), (5, 0), (6, 0)] {
-        let mut machine = machine_of(alloc, &SPLAT)?;
-        let mut input = MemSource::new(alloc, &[], 1, &[])?;
-        let mut out = MemSink::new(alloc, 10, &[])?;
-        let mut err = MemSink::new(alloc, 10, &[])?;
         assert!(rt; steps < 10);
-        let answer = machine.run(steps, &mut input, &mut out, &mut err, false);
-        assert!(rt; answer.is_ok());
-        assert_eq!(rt; machine.last().ops().len(), length, "after {steps} steps");
-        assert_eq!(rt; machine.retired(), steps);
+        let ran = run_of(rt.alloc(), &SPLAT, steps, false, &[])?;
+        assert_eq!(rt;
+            ran.machine.last().ops().len(),
+            length,
+            "after {steps} steps"
+        );
+        assert_eq!(rt; ran.machine.retired(), steps);
     }
     Ok(())
 }
-
-// It writes two bytes of its own words to the output, and exits.
-const WRITE: [u32; 6] = [
-    0x00100513, 0x000105b7, 0x00200613, 0x04000893, 0x00000073, 0x00000000,
-];
 
 #[test]
 fn a_put_that_fails_leaves_the_machine_dead(rt: HostRuntime) -> Result<(), Fail> {
-    let alloc = rt.alloc();
     for (merged, out_len, err_len) in [(false, 1, 0), (true, 0, 1)] {
-        let mut machine = machine_of(alloc, &WRITE)?;
-        let mut input = MemSource::new(alloc, &[], 1, &[])?;
-        let mut out = MemSink::new(alloc, 10, &[(0, 1)])?;
-        let mut err = MemSink::new(alloc, 10, &[(0, 1)])?;
-        let answer = machine.run(9, &mut input, &mut out, &mut err, merged);
-        assert!(rt; answer.is_err());
-        assert!(rt; !machine.live());
-        assert_eq!(rt; machine.retired(), 4);
-        assert_eq!(rt; machine.pc(), 0x10010);
-        assert_eq!(rt; out.bytes().len(), out_len);
-        assert_eq!(rt; err.bytes().len(), err_len);
+        let ran = run_of(rt.alloc(), &WRITE, 9, merged, &[(0, 1)])?;
+        assert!(rt; ran.answer.is_none());
+        assert!(rt; !ran.machine.live());
+        assert_eq!(rt; ran.machine.retired(), 4);
+        assert_eq!(rt; ran.machine.pc(), 0x10010);
+        assert_eq!(rt; (ran.out.len(), ran.err.len()), (out_len, err_len));
     }
     Ok(())
 }
 
 #[test]
-fn a_write_stops_at_what_is_not_built(rt: HostRuntime) -> Result<(), Fail> {
-    let alloc = rt.alloc();
-    let mut machine = machine_of(alloc, &WRITE)?;
-    let mut input = MemSource::new(alloc, &[], 1, &[])?;
-    let mut out = MemSink::new(alloc, 10, &[])?;
-    let mut err = MemSink::new(alloc, 10, &[])?;
-    let answer = machine
-        .run(9, &mut input, &mut out, &mut err, false)
-        .ok()
-        .ok_or("no fault")?;
-    assert_eq!(rt; answer, Step::Unbuilt);
-    assert_eq!(rt; out.bytes(), [0x13, 0x05].as_slice());
-    assert_eq!(rt; machine.retired(), 5);
+fn a_write_goes_out_before_what_is_not_built(rt: HostRuntime) -> Result<(), Fail> {
+    let ran = run_of(rt.alloc(), &WRITE, 9, false, &[])?;
+    assert_eq!(rt; ran.answer, Some(Step::Unbuilt));
+    assert_eq!(rt; ran.out.as_slice(), [0x13, 0x05].as_slice());
+    assert_eq!(rt; ran.machine.retired(), 5);
     Ok(())
 }

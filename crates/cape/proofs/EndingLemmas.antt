@@ -1,0 +1,88 @@
+-- From what a run leaves to how the top call ends.
+use Rattle.std.proofs.Common.{◌≡◌, ℕ, Bool, false, true, List, [], ◌∷◌, ◌++◌, Option, Some, None, refl, sym, ap, ◌∙◌, append_assoc, append-nil, take, drop}
+use Rattle.std.specs.Io.KnownBytes.{Appends}
+use Rattle.std.proofs.lemmas.List.{take-append-drop}
+use Rattle.cape_io.specs.Devices.{PutsFront}
+use Rattle.cam_chain.specs.Slices.{Slices}
+use Rattle.cam_chain.specs.ChainValue.{slices_of}
+use Rattle.rvv_meaning.specs.declared.Mode.{Mode}
+use Rattle.rvv_meaning.specs.declared.Mode.TheVariants.{Running, Exited, Unbuilt}
+use Rattle.rvv_meaning.specs.States.{State, Core, run}
+use Rattle.rvv_meaning.specs.Texts.{report, report_at}
+use Rattle.machine.specs.declared.answers.Step.{Step}
+use Rattle.machine.specs.Answers.{answer_of}
+use Rattle.machine.specs.Moments.{Held, Moment, moments}
+use Rattle.machine.specs.Views.{Shows, GoesBy, FaultsIn, GainsFront, IsFrontOf}
+use Rattle.machine.proofs.Showing.{appends_more}
+use Rattle.machine.proofs.Runs.{state_run}
+use Rattle.cape.specs.declared.ending.Status.{Status}
+use Rattle.cape.specs.Lines.{line_of}
+use Rattle.cape.specs.Endings.{EndsBy, ending_of, FaultsBefore, status_of, kept_for, held_for, Kept, IsAt, Keeps, status_for_answer, budget}
+
+line_is_report : (mode : Mode) (n : ℕ) → line_of (answer_of mode) n ≡ report_at mode n
+line_is_report Running n = refl
+line_is_report (Exited c) n = refl
+line_is_report Unbuilt n = refl
+
+status_is_mode : (mode : Mode) → status_for_answer (answer_of mode) ≡ status_of mode
+status_is_mode Running = refl
+status_is_mode (Exited c) = refl
+status_is_mode Unbuilt = refl
+
+keeps_held : (mode : Mode) (k : Kept) (machine : Held) → IsAt k machine → Keeps (kept_for mode k) (held_for mode machine)
+keeps_held Running k machine is = is
+keeps_held (Exited c) k machine is = is
+keeps_held Unbuilt k machine is = refl
+
+-- how a run ends, stated on the state of the last moment
+abbrev ending_at : Moment → Rattle.cape.specs.Endings.Ending
+ending_at m = ending_of m.state m.slices
+
+ending_run : (m : Moment) → ending_of (run m.state budget) (moments m budget).slices ≡ ending_at (moments m budget)
+ending_run m = ap (λ (s : State). ending_of s (moments m budget).slices) (sym (state_run budget m))
+
+module _ (machine machine' : Held) (left left' out out' err err' err'' : Option (List ℕ)) (answer : Step) (line : List ℕ)
+    (goes : GoesBy (λ m. moments m budget) false machine machine' left left' out out' err err')
+    (live : machine'.live ≡ true)
+    (answered : answer ≡ answer_of machine'.core.mode)
+    (text : line ≡ line_of answer machine'.core.csrs.retired)
+  where
+    -- the report was put
+    pub ends_in : (status : Status) (kept : Option Held) → status ≡ status_for_answer answer → kept ≡ held_for machine'.core.mode machine' → Appends err' err'' line
+        → (m : Moment) (fo fe : Option (List ℕ)) → Shows false m machine left fo out fe err → EndsBy (ending_of (run m.state budget) (moments m budget).slices) status kept left' fo out' fe err''
+    ends_in status kept is keeps put m fo fe shows =
+        let t = goes m fo fe shows in
+        rw (ending_run m) record {
+          status_is = rw (is, answered, t.holds) (status_is_mode machine'.core.mode);
+          keeps = rw (keeps, t.holds) (keeps_held machine'.core.mode _ machine' record { core = sym t.holds; slices = sym t.slices; live = live });
+          told = t.told;
+          gained_out = t.gained_out;
+          gained_err = rw (t.holds, ← line_is_report machine'.core.mode machine'.core.csrs.retired, ← answered, ← text) (appends_more fe err' err'' (moments m budget).state.errors line t.gained_err put);
+        }
+
+    -- the put of the report failed
+    pub report_fails : PutsFront err' err'' line → (m : Moment) (fo fe : Option (List ℕ)) → Shows false m machine left fo out fe err → FaultsBefore (ending_of (run m.state budget) (moments m budget).slices) fo out' fe err''
+    report_fails put m fo fe shows =
+        let t = goes m fo fe shows in
+        let s = (moments m budget).state in
+        let front = take put.0 line in
+        let rest = drop put.0 line in
+        rw (ending_run m) record {
+          front_out = (s.output, t.gained_out, ([], sym (append-nil s.output)));
+          front_err = (
+            s.errors ++ front,
+            appends_more fe err' err'' s.errors front t.gained_err put.2,
+            (rest, rw (t.holds, ← line_is_report machine'.core.mode machine'.core.csrs.retired, ← answered, ← text, append_assoc s.errors front rest, take-append-drop put.0 line) refl),
+          );
+        }
+
+-- the run failed
+pub run_fails : (machine : Held) (left out out' err err' : Option (List ℕ)) → FaultsIn (λ m. moments m budget) false machine left out out' err err'
+    → (m : Moment) (fo fe : Option (List ℕ)) → Shows false m machine left fo out fe err → FaultsBefore (ending_of (run m.state budget) (moments m budget).slices) fo out' fe err'
+run_fails machine left out out' err err' faults m fo fe shows =
+    let f = faults m fo fe shows in
+    let t = (moments m budget).state in
+    rw (ending_run m) record {
+      front_out = f.0;
+      front_err = (f.1.0, f.1.1, (f.1.2.0 ++ report t, rw f.1.2.1 (append_assoc f.1.0 f.1.2.0 (report t))));
+    }

@@ -1,0 +1,6 @@
+-- What the top call promises.
+pub mod Lines
+pub mod Grammar
+pub mod Endings
+pub mod Reading
+pub mod Codes

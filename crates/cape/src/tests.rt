@@ -1,0 +1,337 @@
+// Runs of the top call over memory. The images and what they end with are worked out by hand from the encodings.
+ghost use Rattle.std.specs.Prelude.{◌≤◌, length};
+
+use crate::ending::Status;
+use crate::top::cape;
+use cape_io::{MemFiles, MemSink, MemSource, SureFiles, SureSink, SureSource};
+use machine::Machine;
+use std::alloc::Global;
+use std::test::Fail;
+
+// The header of an image before its length, which stands twice, and behind it.
+const FRONT: [u8; 68] = [
+    0x7f, 0x45, 0x4c, 0x46, 1, 1, 1, 0, 0, 0, 0, 0, 0, 0, 0, 0, 2, 0, 0xf3, 0, 1, 0, 0, 0, 0x54, 0,
+    1, 0, 0x34, 0, 0, 0, 0, 0, 0, 0, 0, 0, 0, 0, 0x34, 0, 0x20, 0, 1, 0, 0, 0, 0, 0, 0, 0, 1, 0, 0,
+    0, 0, 0, 0, 0, 0, 0, 1, 0, 0, 0, 1, 0,
+];
+
+const BACK: [u8; 8] = [5, 0, 0, 0, 0, 0x10, 0, 0];
+
+// addi x10, x0, 7; vsetivli x0, 4, e32, m1, ta, ma; vmv.v.x v1, x10; vxor.vv v2, v1, v1; addi x17, x0, 93; ecall
+const SPLAT: [u32; 6] = [
+    0x00700513, 0xcd027057, 0x5e0540d7, 0x2e108157, 0x05d00893, 0x00000073,
+];
+
+// It writes `hi` and a newline, and exits with 0.
+const HELLO: [u32; 10] = [
+    0x00100513, 0x000105b7, 0x07858593, 0x00300613, 0x04000893, 0x00000073, 0x00000513, 0x05d00893,
+    0x00000073, 0x000a6968,
+];
+
+// The image with these words behind its header.
+fn image(alloc: Global, words: &[u32]) -> Result<Vec<u8>, Fail>
+    requires { length words.now ≤ 1004 }
+{
+    let len = (84 + 4 * words.len() as u32).to_le_bytes();
+    let mut bytes = Vec::from_slice(alloc, FRONT.as_slice())?;
+    bytes.extend_from_slice(len.as_slice())?;
+    bytes.extend_from_slice(len.as_slice())?;
+    bytes.extend_from_slice(BACK.as_slice())?;
+    for word in words {
+        bytes.extend_from_slice(word.to_le_bytes().as_slice())?;
+    }
+    Ok(bytes)
+}
+
+// The words of a command line.
+fn words_of(alloc: Global, texts: &[&str]) -> Result<Vec<String>, Fail> {
+    let mut words = Vec::new(alloc);
+    for text in texts {
+        words.push(String::from_str(alloc, text)?)?;
+    }
+    Ok(words)
+}
+
+// A call of the top call: the words, the bytes of the file `A`, and the calls of each device that fail.
+#[derive(Clone, Copy)]
+struct Case<'a> {
+    words: &'a [&'a str],
+    image: &'a [u8],
+    file_fails: &'a [u64],
+    out_fails: &'a [(u64, usize)],
+    err_fails: &'a [(u64, usize)],
+}
+
+// How it ended.
+#[derive(Drop)]
+struct Ended {
+    status: Status,
+    out: Vec<u8>,
+    err: Vec<u8>,
+    kept: Option<Machine>,
+}
+
+fn end_of(alloc: Global, case: &Case) -> Result<Ended, Fail> {
+    let words = words_of(alloc, case.words)?;
+    let mut files = MemFiles::new(alloc, words.as_slice(), case.file_fails)?;
+    files.add(alloc, "A", case.image)?;
+    let mut input = MemSource::new(alloc, &[], 1, &[])?;
+    let mut out = MemSink::new(alloc, 200, case.out_fails)?;
+    let mut err = MemSink::new(alloc, 200, case.err_fails)?;
+    let mut kept = None;
+    let status = cape(
+        alloc,
+        words.as_slice(),
+        &mut files,
+        &mut input,
+        &mut out,
+        &mut err,
+        &mut kept,
+    );
+    Ok(Ended {
+        status,
+        out: Vec::from_slice(alloc, out.bytes())?,
+        err: Vec::from_slice(alloc, err.bytes())?,
+        kept,
+    })
+}
+
+// A run of an image whose devices do not fail.
+fn run_of(alloc: Global, image: &[u8]) -> Result<Ended, Fail> {
+    end_of(
+        alloc,
+        &Case {
+            words: &["run", "A"],
+            image,
+            file_fails: &[],
+            out_fails: &[],
+            err_fails: &[],
+        },
+    )
+}
+
+#[test]
+fn a_splat_and_an_exclusive_or_exit_with_seven(rt: HostRuntime) -> Result<(), Fail> {
+    let alloc = rt.alloc();
+    let image = image(alloc, &SPLAT)?;
+    let ended = run_of(alloc, &image)?;
+    assert_eq!(rt; ended.status, Status::Exited(7));
+    assert_eq!(rt; ended.out.len(), 0);
+    assert_eq!(rt;
+        ended.err.as_slice(),
+        b"cape: exited 7 after 6\n".as_slice()
+    );
+    let machine = ended.kept.ok_or("a machine is kept")?;
+    assert!(rt; machine.live());
+    assert_eq!(rt; machine.retired(), 6);
+    assert_eq!(rt; machine.pc(), 0x1006c);
+    let counts = machine.counts();
+    assert_eq!(rt;
+        (counts.searches, counts.updates, counts.passes),
+        (11, 10, 0)
+    );
+    let chain = machine.chain();
+    assert_eq!(rt; chain.columns(), 32);
+    for col in 0..chain.columns() {
+        assert!(rt; chain.row(0, 34).get(col), "the scalar's bit 0");
+        assert!(rt; !chain.row(3, 34).get(col), "the scalar's bit 3");
+    }
+    Ok(())
+}
+
+#[test]
+fn a_run_over_sure_devices_ends_the_same(rt: HostRuntime) -> Result<(), Fail> {
+    let alloc = rt.alloc();
+    let image = image(alloc, &SPLAT)?;
+    let words = words_of(alloc, &["run", "A"])?;
+    let mut files = SureFiles::new(alloc, words.as_slice());
+    files.add(alloc, "A", &image)?;
+    let mut input = SureSource::new(alloc, &[], 1)?;
+    let mut out = SureSink::new();
+    let mut err = SureSink::new();
+    let mut kept = None;
+    let status = cape(
+        alloc,
+        words.as_slice(),
+        &mut files,
+        &mut input,
+        &mut out,
+        &mut err,
+        &mut kept,
+    );
+    assert_eq!(rt; status, Status::Exited(7));
+    assert_eq!(rt; out.len(), 0);
+    assert_eq!(rt; err.len(), 23);
+    assert!(rt; kept.is_some());
+    Ok(())
+}
+
+#[test]
+fn a_guest_writes_before_the_report(rt: HostRuntime) -> Result<(), Fail> {
+    let alloc = rt.alloc();
+    let ended = run_of(alloc, &image(alloc, &HELLO)?)?;
+    assert_eq!(rt; ended.status, Status::Exited(0));
+    assert_eq!(rt; ended.out.as_slice(), b"hi\n".as_slice());
+    assert_eq!(rt;
+        ended.err.as_slice(),
+        b"cape: exited 0 after 9\n".as_slice()
+    );
+    Ok(())
+}
+
+// Whether the words end as a usage error, with its line alone.
+fn is_usage(alloc: Global, words: &[&str], image: &[u8]) -> Result<bool, Fail> {
+    let ended = end_of(
+        alloc,
+        &Case {
+            words,
+            image,
+            file_fails: &[],
+            out_fails: &[],
+            err_fails: &[],
+        },
+    )?;
+    Ok(
+        ended.status == Status::Usage
+            && ended.err.as_slice() == b"cape: usage\n".as_slice()
+            && ended.out.is_empty()
+            && ended.kept.is_none(),
+    )
+}
+
+#[test]
+fn words_outside_the_grammar_are_a_usage_error(rt: HostRuntime) -> Result<(), Fail> {
+    let alloc = rt.alloc();
+    let image = image(alloc, &SPLAT)?;
+    assert!(rt; is_usage(alloc, &[], &image)?);
+    assert!(rt; is_usage(alloc, &["run"], &image)?);
+    assert!(rt; is_usage(alloc, &["run", ""], &image)?);
+    assert!(rt; is_usage(alloc, &["run", "-A"], &image)?);
+    assert!(rt; is_usage(alloc, &["run", "A", "--vlen", "48"], &image)?);
+    assert!(rt; is_usage(alloc, &["run", "A", "A"], &image)?);
+    assert!(rt; is_usage(alloc, &["Run", "A"], &image)?);
+    assert!(rt; is_usage(alloc, &["help"], &image)?);
+    Ok(())
+}
+
+#[test]
+fn what_is_not_built_ends_a_run(rt: HostRuntime) -> Result<(), Fail> {
+    let alloc = rt.alloc();
+    let mut other = image(alloc, &SPLAT)?;
+    other.push(0)?;
+    let long = vec![in alloc; 0u8; 5000]?;
+    let images = [
+        (other, "another form"),
+        (long, "past the limit"),
+        (Vec::new(alloc), "no bytes"),
+        (image(alloc, &[])?, "no words"),
+        (image(alloc, &[0x00000033])?, "add"),
+        (image(alloc, &[0x00000013])?, "past the image"),
+        (image(alloc, &[0x00000073])?, "another call"),
+        (image(alloc, &[0x5e0540d7])?, "no setting in force"),
+        (image(alloc, &[0xcd027057, 0x2c108157])?, "masked"),
+    ];
+    for (image, name) in images.iter() {
+        let ended = run_of(alloc, image)?;
+        assert_eq!(rt; ended.status, Status::Unbuilt, "{name}");
+        assert_eq!(rt;
+            ended.err.as_slice(),
+            b"cape: unbuilt\n".as_slice(),
+            "{name}"
+        );
+        assert_eq!(rt; ended.out.len(), 0, "{name}");
+        assert!(rt; ended.kept.is_none(), "{name}");
+    }
+    Ok(())
+}
+
+#[test]
+fn devices_that_fail_end_the_call(rt: HostRuntime) -> Result<(), Fail> {
+    let alloc = rt.alloc();
+    let image = image(alloc, &HELLO)?;
+    let cases: [(Case, Status, &[u8], &[u8]); 5] = [
+        (
+            Case {
+                words: &["run", "missing"],
+                image: &image,
+                file_fails: &[],
+                out_fails: &[],
+                err_fails: &[],
+            },
+            Status::ReadFault,
+            b"",
+            b"",
+        ),
+        (
+            Case {
+                words: &["run", "A"],
+                image: &image,
+                file_fails: &[1],
+                out_fails: &[],
+                err_fails: &[],
+            },
+            Status::ReadFault,
+            b"",
+            b"",
+        ),
+        (
+            Case {
+                words: &["run", "A"],
+                image: &image,
+                file_fails: &[],
+                out_fails: &[(0, 1)],
+                err_fails: &[],
+            },
+            Status::WriteFault,
+            b"h",
+            b"",
+        ),
+        (
+            Case {
+                words: &["run", "A"],
+                image: &image,
+                file_fails: &[],
+                out_fails: &[],
+                err_fails: &[(0, 5)],
+            },
+            Status::WriteFault,
+            b"hi\n",
+            b"cape:",
+        ),
+        (
+            Case {
+                words: &[],
+                image: &image,
+                file_fails: &[],
+                out_fails: &[],
+                err_fails: &[(0, 0)],
+            },
+            Status::WriteFault,
+            b"",
+            b"",
+        ),
+    ];
+    for (case, status, out, err) in cases.iter() {
+        let ended = end_of(alloc, case)?;
+        assert_eq!(rt; ended.status, *status);
+        assert_eq!(rt; ended.out.as_slice(), *out);
+        assert_eq!(rt; ended.err.as_slice(), *err);
+        assert!(rt; ended.kept.is_none());
+    }
+    Ok(())
+}
+
+#[test]
+fn each_status_has_its_code(rt: HostRuntime) {
+    for (status, code) in [
+        (Status::Exited(7), 7),
+        (Status::Unbuilt, 120),
+        (Status::StepLimit, 122),
+        (Status::Usage, 124),
+        (Status::ReadFault, 125),
+        (Status::WriteFault, 126),
+        (Status::NoMemory, 127),
+    ] {
+        assert_eq!(rt; status.code(), code);
+    }
+}
