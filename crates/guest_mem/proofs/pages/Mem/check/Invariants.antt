@@ -1,0 +1,9 @@
+use Rattle.std.proofs.Common.{◌≡◌, ◌-◌, ◌<◌, ◌^◌}
+use Rattle.guest_mem.specs.Pages.{first_bad}
+use Rattle.guest_mem.proofs.pages.Mem.check.Given as goal
+
+abbrev pub invariant-loop : goal.invariant-loop
+invariant-loop l = record {
+  rest : first_bad l.self.pages l.need.0 l.fn.address l.len ≡ first_bad l.self.pages l.need.0 l.at (l.len - l.counter);
+  fits : l.at < 2 ^ 32;
+}

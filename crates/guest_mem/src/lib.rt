@@ -1,0 +1,14 @@
+//! Guest memory: pages of 4,096 bytes with permissions, and the break.
+#![tactic(auto)]
+
+mod faults;
+mod pages;
+mod permissions;
+mod regions;
+#[cfg(test)]
+mod tests;
+
+pub use faults::{MemFault, Trap};
+pub use pages::Mem;
+pub use permissions::Perms;
+pub use regions::{ByteList, Region};

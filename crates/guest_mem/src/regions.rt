@@ -1,0 +1,48 @@
+// The regions that a memory is made of.
+ghost use Rattle.std.specs.Prelude.{◌≡◌};
+
+use crate::permissions::Perms;
+use std::marker::Model;
+
+/// Bytes of a region; contracts see them as a list.
+#[derive(Drop)]
+pub struct ByteList {
+    items: Vec<u8>,
+}
+
+impl Model for ByteList {
+    ghost use Rattle.std.specs.Prelude.{ℕ, List};
+    ghost use Rattle.std.specs.Coded.{coded_ℕ, coded_list};
+
+    ghost Value = { List ℕ };
+
+    ghost coded = { coded_list coded_ℕ };
+
+    ghost view = { λ b. b.items.items };
+}
+
+impl ByteList {
+    /// The bytes of a vector.
+    pub fn new(items: Vec<u8>) -> ByteList
+        ensures { result ≡ items.items }
+    {
+        ByteList { items: items }
+    }
+
+    /// The bytes.
+    pub fn as_slice(&self) -> &[u8]
+        ensures { result.now ≡ self.now }
+    {
+        &self.items
+    }
+}
+
+/// A range of addresses with its permissions. Its bytes are those from `start` on, and no more than `len`; what lies
+/// past them is zero.
+#[derive(Drop)]
+pub struct Region {
+    pub start: u32,
+    pub len: u32,
+    pub perms: Perms,
+    pub bytes: ByteList,
+}
