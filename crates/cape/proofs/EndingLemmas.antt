@@ -6,7 +6,7 @@ use Rattle.cape_io.specs.Devices.{PutsFront}
 use Rattle.cam_chain.specs.Slices.{Slices}
 use Rattle.cam_chain.specs.ChainValue.{slices_of}
 use Rattle.rvv_meaning.specs.declared.Mode.{Mode}
-use Rattle.rvv_meaning.specs.declared.Mode.TheVariants.{Running, Exited, Unbuilt}
+use Rattle.rvv_meaning.specs.declared.Mode.TheVariants.{Running, Exited, Trapped, Unbuilt}
 use Rattle.rvv_meaning.specs.States.{State, Core, run}
 use Rattle.rvv_meaning.specs.Texts.{report, report_at}
 use Rattle.machine.specs.declared.answers.Step.{Step}
@@ -22,16 +22,19 @@ use Rattle.cape.specs.Endings.{EndsBy, ending_of, FaultsBefore, status_of, kept_
 line_is_report : (mode : Mode) (n : ℕ) → line_of (answer_of mode) n ≡ report_at mode n
 line_is_report Running n = refl
 line_is_report (Exited c) n = refl
+line_is_report (Trapped t) n = refl
 line_is_report Unbuilt n = refl
 
 status_is_mode : (mode : Mode) → status_for_answer (answer_of mode) ≡ status_of mode
 status_is_mode Running = refl
 status_is_mode (Exited c) = refl
+status_is_mode (Trapped t) = refl
 status_is_mode Unbuilt = refl
 
 keeps_held : (mode : Mode) (k : Kept) (machine : Held) → IsAt k machine → Keeps (kept_for mode k) (held_for mode machine)
 keeps_held Running k machine is = is
 keeps_held (Exited c) k machine is = is
+keeps_held (Trapped t) k machine is = is
 keeps_held Unbuilt k machine is = refl
 
 -- how a run ends, stated on the state of the last moment

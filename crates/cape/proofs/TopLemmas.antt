@@ -1,77 +1,99 @@
--- The image that was read ends as the file does, and a machine at its start shows the start.
-use Rattle.std.proofs.Common.{◌≡◌, ℕ, ◌/◌, ◌<◌, ◌≤◌, Bool, true, false, cond, List, [], ◌++◌, length, take, drop, Option, Some, None, refl, sym, ap, ◌∙◌, append-nil, arith, ◌⊎◌, inl, inr, nat_le}
-use Rattle.std.specs.Prelude.{◌&&◌}
-use Rattle.std.proofs.lemmas.List.{take_all, length-take-le, take-append-drop}
-use Rattle.std.proofs.lemmas.Bool.{cases_lt}
-use Rattle.std.proofs.lemmas.Bool.Decides.{nat_tests}
+-- How a command ends, by what was loaded, and a machine at its start shows the start.
+use Rattle.std.proofs.Common.{◌≡◌, ◌⊎◌, inl, inr, ℕ, ◌/◌, false, List, [], map, take, drop, Option, Some, None, refl, sym, ap, ◌∙◌, subst}
+use Rattle.std.proofs.lemmas.List.{take-append-drop}
 use Rattle.std.specs.Io.KnownBytes.{Appends}
 use Rattle.cape_io.specs.Devices.{PutsFront}
+use Rattle.guest_mem.specs.Pages.{Memory}
+use Rattle.elf_load.specs.Faults.{fault}
+use Rattle.elf_load.specs.Fields.{entry}
+use Rattle.elf_load.specs.Layout.{regions, span_of}
+use Rattle.elf_load.specs.declared.faults.LoadFault.{LoadFault}
+use Rattle.elf_load.specs.declared.loaded.Loaded.{Loaded}
 use Rattle.cam_chain.specs.Slices.{blank}
 use Rattle.cam_chain.specs.ChainValue.{slices_of}
-use Rattle.rvv_meaning.specs.declared.Mode.TheVariants.{Running}
-use Rattle.rvv_meaning.specs.States.{State, Core, run}
-use Rattle.rvv_meaning.specs.Images.{is_plain, start, start_core, entry}
+use Rattle.rvv_meaning.specs.declared.Mode.{Mode}
+use Rattle.rvv_meaning.specs.declared.Mode.TheVariants.{Running, Exited, Trapped, Unbuilt}
+use Rattle.rvv_meaning.specs.States.{State, Core}
+use Rattle.rvv_meaning.specs.Images.{start_core, start_state}
 use Rattle.machine.specs.Moments.{Held, Moment, first_moment, moments, slices_after}
+use Rattle.machine.specs.Opening.{start, memory_of}
 use Rattle.machine.specs.Views.{Shows, GainsFront}
+use Rattle.machine.specs.Answers.{answer_of}
+use Rattle.machine.specs.declared.answers.Step.{Step}
 use Rattle.machine.proofs.Carried.{appends_none}
-use Rattle.cape.specs.Endings.{ending, not_plain, ending_of, vlen, budget}
+use Rattle.cape.specs.declared.ending.Status.{Status}
+use Rattle.cape.specs.declared.ending.Status.TheVariants.{WriteFault, NoMemory}
+use Rattle.cape.specs.declared.words.Command.{Command}
+use Rattle.cape.specs.declared.words.Command.TheVariants.{Run, Check}
+use Rattle.cape.specs.Endings.{Ending, IsEnded, IsOfRun, KeepsMachine, ending, ending_from, refused, checked, status_for_answer, held_for, vlen}
+use Rattle.cape.specs.Layouts.{layout_text}
+use Rattle.cape.specs.Reading.{IsLoadedFrom}
 
-and_false : (a : Bool) → (a && false) ≡ false
-and_false true = refl
-and_false false = refl
-
-too_long : (n : ℕ) → 4096 < n → nat_le n 4096 ≡ false
-too_long n long = grind (arith, nat_tests)
-
-long_not_plain : (image : List ℕ) → 4096 < length image → is_plain image ≡ false
-unfolding is_plain
-long_not_plain image long = rw (too_long (length image) long, and_false (nat_le 88 (length image))) refl
-
-not_plain_ends : (image input : List ℕ) → is_plain image ≡ false → ending image input ≡ not_plain input
+-- an image with a fault is refused
+pub refused_ends : (command : Command) (image input : List ℕ) (f : LoadFault) → fault image ≡ Some f → ending command image input ≡ refused f input
 unfolding ending
-not_plain_ends image input differs = rw differs refl
+refused_ends command image input f is = rw is refl
 
-plain_ends : (image input : List ℕ) → is_plain image ≡ true
-    → ending image input ≡ ending_of (run (start image vlen input) budget) (moments (first_moment (start image vlen input)) budget).slices
-unfolding ending slices_after
-plain_ends image input is = rw is refl
+-- the memory that is loaded
+abbrev pub memory_in : Loaded → Memory
+memory_in l = memory_of l.regions l.heap l.heap_end
 
-ending_by : (image input : List ℕ) → (4097 < length image) ⊎ (length image ≤ 4097) → ending (take 4097 image) input ≡ ending image input
-ending_by image input (inr short) = ap (λ i. ending i input) (take_all 4097 image short)
-ending_by image input (inl long) =
-    let fits : 4097 ≤ length image = omega arith in
-    let read : length (take 4097 image) ≡ 4097 = length-take-le 4097 image fits in
-    let read_long : 4096 < length (take 4097 image) = omega arith in
-    let image_long : 4096 < length image = omega arith in
-    not_plain_ends (take 4097 image) input (long_not_plain (take 4097 image) read_long) ∙ sym (not_plain_ends image input (long_not_plain image image_long))
+start_loaded : (image input : List ℕ) (l : Loaded) → IsLoadedFrom image l → start image vlen input ≡ start_state vlen l.entry_pc (memory_in l) input
+unfolding start
+start_loaded image input l from = rw (from.entry_pc, from.regions_are, from.heap_is, from.heap_end_is) refl
 
--- the front that is read ends as the whole image does
-ending_read : (image input read : List ℕ) → read ≡ take 4097 image → ending read input ≡ ending image input
-ending_read image input read is = rw is (ending_by image input (cases_lt 4097 (length image)))
+-- a run of an image ends as a run of what was loaded of it
+pub run_ends : (image input : List ℕ) (l : Loaded) → IsLoadedFrom image l → ending Run image input ≡ ending_from (start_state vlen l.entry_pc (memory_in l) input)
+unfolding ending
+run_ends image input l from = rw from.sound (ap ending_from (start_loaded image input l from))
 
-pub not_plain_read : (image input held : List ℕ) → held ≡ take 4097 image → is_plain held ≡ false → ending image input ≡ not_plain input
-not_plain_read image input held is differs = sym (ending_read image input held is) ∙ not_plain_ends held input differs
-
-pub plain_read : (image input held : List ℕ) → held ≡ take 4097 image → is_plain held ≡ true
-    → ending image input ≡ ending_of (run (start held vlen input) budget) (moments (first_moment (start held vlen input)) budget).slices
-plain_read image input held is plain = sym (ending_read image input held is) ∙ plain_ends held input plain
+-- a check of an image shows what was loaded of it
+pub check_ends : (image input : List ℕ) (l : Loaded) → IsLoadedFrom image l → ending Check image input ≡ record (checked image input) { out = layout_text l.entry_pc (map span_of l.regions) }
+unfolding ending
+check_ends image input l from = rw (from.sound, from.entry_pc, from.regions_are) refl
 
 -- a machine at its start shows the first moment
-pub shows_start : (bytes input : List ℕ) (machine : Held) (left out err : Option (List ℕ)) → left ≡ Some input
-    → machine.core ≡ start_core vlen entry bytes → slices_of machine.chain ≡ blank (vlen / 32) → machine.last ≡ []
-    → Shows false (first_moment (start bytes vlen input)) machine left out out err err
-unfolding start start_core
-shows_start bytes input machine left out err told core slices last =
+pub shows_start : (pc : ℕ) (mem : Memory) (input : List ℕ) (machine : Held) (left out err : Option (List ℕ)) → left ≡ Some input
+    → machine.core ≡ start_core vlen pc mem → slices_of machine.chain ≡ blank (vlen / 32) → machine.last ≡ []
+    → Shows false (first_moment (start_state vlen pc mem input)) machine left out out err err
+unfolding start_state start_core
+shows_start pc mem input machine left out err told core slices last =
     record { holds = sym core; slices = sym slices; last = sym last; told = told; gained_out = appends_none out; gained_err = appends_none err }
 
 -- it runs, and nothing has retired
-pub start-running : (machine : Held) (bytes : List ℕ) → machine.core ≡ start_core vlen entry bytes → machine.core.mode ≡ Running
+pub start-running : (machine : Held) (pc : ℕ) (mem : Memory) → machine.core ≡ start_core vlen pc mem → machine.core.mode ≡ Running
 unfolding start_core
-start-running machine bytes is = ap (λ (c : Core). c.mode) is
+start-running machine pc mem is = ap (λ (c : Core). c.mode) is
 
-pub start-fresh : (machine : Held) (bytes : List ℕ) → machine.core ≡ start_core vlen entry bytes → machine.core.csrs.retired ≡ 0
+pub start-fresh : (machine : Held) (pc : ℕ) (mem : Memory) → machine.core ≡ start_core vlen pc mem → machine.core.csrs.retired ≡ 0
 unfolding start_core
-start-fresh machine bytes is = ap (λ (c : Core). c.csrs.retired) is
+start-fresh machine pc mem is = ap (λ (c : Core). c.csrs.retired) is
 
 pub front_put : (line : List ℕ) (first held : Option (List ℕ)) → PutsFront first held line → GainsFront first held line
 front_put line first held put = (take put.0 line, put.2, (drop put.0 line, sym (take-append-drop put.0 line)))
+
+-- nothing is a front of any text
+pub front_none : (held : Option (List ℕ)) (whole : List ℕ) → GainsFront held held whole
+front_none held whole = ([], appends_none held, (whole, refl))
+
+-- a call that ended, and did so or failed, did so
+pub ended_so : (s t : Status) → IsEnded s → (s ≡ t) ⊎ (s ≡ WriteFault) → s ≡ t
+ended_so s t ended (inl is) = is
+ended_so s t ended (inr failed) = absurd (subst IsEnded failed ended)
+
+-- a run that ended did so by its state
+pub ended_run : (s : Status) → IsEnded s → IsOfRun s ⊎ ((s ≡ WriteFault) ⊎ (s ≡ NoMemory)) → IsOfRun s
+ended_run s ended (inl is) = is
+ended_run s ended (inr (inl failed)) = absurd (subst IsEnded failed ended)
+ended_run s ended (inr (inr wants)) = absurd (subst IsEnded wants ended)
+
+-- words have one command at most
+pub same_command : (found read : Option Command) (command c : Command) → found ≡ read → found ≡ Some c → read ≡ Some command → command ≡ c
+same_command found read command c same is named = cc
+
+-- the machine is kept where the mode says so
+pub kept_or_none : (mode : Mode) (machine : Held) (a : Step) → a ≡ answer_of mode → KeepsMachine (status_for_answer a) ⊎ (held_for mode machine ≡ None)
+kept_or_none Running machine a is = inl (rw is tt)
+kept_or_none (Exited code) machine a is = inl (rw is tt)
+kept_or_none (Trapped t) machine a is = inl (rw is tt)
+kept_or_none Unbuilt machine a is = inr refl

@@ -1,30 +1,40 @@
--- How a command ends: what each status says of the state that the run reaches.
-use Rattle.std.specs.Prelude.{◌≡◌, ⊤, ℕ, List, [], ◌∷◌, ◌++◌, Option, Some, None, true, MatchOption, if◌then◌else◌}
+-- How a command ends: what each status says of the image and of the state that its run reaches.
+use Rattle.std.specs.Prelude.{◌≡◌, ⊤, ℕ, List, [], ◌++◌, map, Option, Some, None, true, MatchOption}
 use Rattle.std.specs.Io.KnownBytes.{Appends}
+use Rattle.elf_load.specs.Faults.{fault}
+use Rattle.elf_load.specs.Fields.{entry}
+use Rattle.elf_load.specs.Layout.{regions, span_of}
+use Rattle.elf_load.specs.declared.faults.LoadFault.{LoadFault}
 use Rattle.cam_chain.specs.Slices.{Slices}
 use Rattle.cam_chain.specs.ChainValue.{slices_of}
 use Rattle.rvv_meaning.specs.declared.Mode.{Mode}
-use Rattle.rvv_meaning.specs.declared.Mode.TheVariants.{Running, Exited, Unbuilt}
+use Rattle.rvv_meaning.specs.declared.Mode.TheVariants.{Running, Exited, Trapped, Unbuilt}
 use Rattle.rvv_meaning.specs.States.{State, run}
-use Rattle.rvv_meaning.specs.Images.{start, is_plain}
-use Rattle.rvv_meaning.specs.Texts.{report, unbuilt_line}
+use Rattle.rvv_meaning.specs.Texts.{report}
 use Rattle.machine.specs.Moments.{Held, slices_after}
+use Rattle.machine.specs.Opening.{start}
 use Rattle.machine.specs.Views.{GainsFront}
 use Rattle.machine.specs.declared.answers.Step.{Step}
-use Rattle.machine.specs.declared.answers.Step.TheVariants.{Ran, Exited as SaysExited, Unbuilt as SaysUnbuilt}
+use Rattle.machine.specs.declared.answers.Step.TheVariants.{Ran, Exited as SaysExited, Trapped as SaysTrapped, Unbuilt as SaysUnbuilt}
+use Rattle.cape.specs.declared.words.Command.{Command}
+use Rattle.cape.specs.declared.words.Command.TheVariants.{Run, Check}
 use Rattle.cape.specs.declared.ending.Status.{Status}
-use Rattle.cape.specs.declared.ending.Status.TheVariants.{StepLimit, Usage, ReadFault, WriteFault, NoMemory, Exited as ExitedWith, Unbuilt as NotBuilt}
+use Rattle.cape.specs.declared.ending.Status.TheVariants.{Done, StepLimit, Refused, Usage, ReadFault, WriteFault, NoMemory, Exited as ExitedWith, Trapped as HasTrapped, Unbuilt as NotBuilt}
+use Rattle.cape.specs.Lines.{refused_line}
+use Rattle.cape.specs.Layouts.{layout_text}
 
 -- the status for a mode
 abbrev pub status_of : Mode → Status
 status_of Running = StepLimit
 status_of (Exited c) = ExitedWith c
+status_of (Trapped t) = HasTrapped
 status_of Unbuilt = NotBuilt
 
 -- the status for an answer of the machine
 abbrev pub status_for_answer : Step → Status
 status_for_answer Ran = StepLimit
 status_for_answer (SaysExited c) = ExitedWith c
+status_for_answer (SaysTrapped t) = HasTrapped
 status_for_answer SaysUnbuilt = NotBuilt
 
 -- a state with the state of the slices in it
@@ -36,12 +46,14 @@ pub record Kept : Type 0 where
 abbrev pub kept_for : Mode → Kept → Option Kept
 kept_for Running k = Some k
 kept_for (Exited c) k = Some k
+kept_for (Trapped t) k = Some k
 kept_for Unbuilt k = None
 
 -- the machine that stays for a mode
 abbrev pub held_for : Mode → Held → Option Held
 held_for Running machine = Some machine
 held_for (Exited c) machine = Some machine
+held_for (Trapped t) machine = Some machine
 held_for Unbuilt machine = None
 
 -- the machine is live and in this state, with these slices
@@ -66,11 +78,66 @@ budget = 1_000_000_000
 abbrev pub IsOfRun : Status → Type 0
 IsOfRun StepLimit = ⊤
 IsOfRun (ExitedWith c) = ⊤
+IsOfRun HasTrapped = ⊤
 IsOfRun NotBuilt = ⊤
+IsOfRun Done = ⊥
+IsOfRun (Refused f) = ⊥
 IsOfRun Usage = ⊥
 IsOfRun ReadFault = ⊥
 IsOfRun WriteFault = ⊥
 IsOfRun NoMemory = ⊥
+
+-- the machine of the run is kept
+abbrev pub KeepsMachine : Status → Type 0
+KeepsMachine StepLimit = ⊤
+KeepsMachine (ExitedWith c) = ⊤
+KeepsMachine HasTrapped = ⊤
+KeepsMachine NotBuilt = ⊥
+KeepsMachine Done = ⊥
+KeepsMachine (Refused f) = ⊥
+KeepsMachine Usage = ⊥
+KeepsMachine ReadFault = ⊥
+KeepsMachine WriteFault = ⊥
+KeepsMachine NoMemory = ⊥
+
+-- the image is refused
+abbrev pub IsRefused : Status → Type 0
+IsRefused (Refused f) = ⊤
+IsRefused StepLimit = ⊥
+IsRefused (ExitedWith c) = ⊥
+IsRefused HasTrapped = ⊥
+IsRefused NotBuilt = ⊥
+IsRefused Done = ⊥
+IsRefused Usage = ⊥
+IsRefused ReadFault = ⊥
+IsRefused WriteFault = ⊥
+IsRefused NoMemory = ⊥
+
+-- the status is one that a command on an image ends with: nothing failed
+abbrev pub IsEnded : Status → Type 0
+IsEnded StepLimit = ⊤
+IsEnded (ExitedWith c) = ⊤
+IsEnded HasTrapped = ⊤
+IsEnded NotBuilt = ⊤
+IsEnded Done = ⊤
+IsEnded (Refused f) = ⊤
+IsEnded Usage = ⊥
+IsEnded ReadFault = ⊥
+IsEnded WriteFault = ⊥
+IsEnded NoMemory = ⊥
+
+-- the status comes before anything is put
+abbrev pub IsStopped : Status → Type 0
+IsStopped ReadFault = ⊤
+IsStopped NoMemory = ⊤
+IsStopped StepLimit = ⊥
+IsStopped (ExitedWith c) = ⊥
+IsStopped HasTrapped = ⊥
+IsStopped NotBuilt = ⊥
+IsStopped Done = ⊥
+IsStopped (Refused f) = ⊥
+IsStopped Usage = ⊥
+IsStopped WriteFault = ⊥
 
 -- How a command ends: its status, what is kept, what the input has left, and what each sink gains.
 pub record Ending : Type 0 where
@@ -90,16 +157,30 @@ ending_of s slices = record {
   err = s.errors ++ report s;
 }
 
--- how a run of an image that is not plain ends
-abbrev pub not_plain : List ℕ → Ending
-not_plain input = record { status = NotBuilt; kept = None; left = input; out = []; err = unbuilt_line }
+-- how a run from a state ends
+abbrev pub ending_from : State → Ending
+ending_from s = ending_of (run s budget) (slices_after s budget)
 
--- how a run of an image ends
-unfoldable pub ending : List ℕ → List ℕ → Ending
-ending image input =
-    if is_plain image
-    then ending_of (run (start image vlen input) budget) (slices_after (start image vlen input) budget)
-    else not_plain input
+-- how a command ends whose image is refused
+abbrev pub refused : LoadFault → List ℕ → Ending
+refused f input = record { status = Refused f; kept = None; left = input; out = []; err = refused_line f }
+
+-- how a check of an image ends
+abbrev pub checked : List ℕ → List ℕ → Ending
+checked image input = record { status = Done; kept = None; left = input; out = layout_text (entry image) (map span_of (regions image)); err = [] }
+
+-- how a command ends whose image has no fault
+abbrev pub ending_loaded : Command → List ℕ → List ℕ → Ending
+ending_loaded Run image input = ending_from (start image vlen input)
+ending_loaded Check image input = checked image input
+
+-- how a command on an image ends: refused by the image's first fault, or as the image says
+abbrev pub ending_with : Option LoadFault → Command → List ℕ → List ℕ → Ending
+ending_with (Some f) command image input = refused f input
+ending_with None command image input = ending_loaded command image input
+
+unfoldable pub ending : Command → List ℕ → List ℕ → Ending
+ending command image input = ending_with (fault image) command image input
 
 -- The command ended so: each sink that tells its bytes gained the text.
 pub record EndsBy (e : Ending) (status : Status) (kept : Option Held) (left first_out out first_err err : Option (List ℕ)) : Type 0 where
@@ -113,13 +194,3 @@ pub record EndsBy (e : Ending) (status : Status) (kept : Option Held) (left firs
 pub record FaultsBefore (e : Ending) (first_out out first_err err : Option (List ℕ)) : Type 0 where
   pub front_out : GainsFront first_out out e.out
   pub front_err : GainsFront first_err err e.err
-
--- the status comes before anything is put
-abbrev pub IsStopped : Status → Type 0
-IsStopped ReadFault = ⊤
-IsStopped NoMemory = ⊤
-IsStopped StepLimit = ⊥
-IsStopped (ExitedWith c) = ⊥
-IsStopped NotBuilt = ⊥
-IsStopped Usage = ⊥
-IsStopped WriteFault = ⊥

@@ -1,5 +1,6 @@
 -- What the top call promises.
 pub mod Lines
+pub mod Layouts
 pub mod Grammar
 pub mod Endings
 pub mod Reading

@@ -1,15 +1,14 @@
-// The lines that a run ends with.
-ghost use Rattle.std.specs.Prelude.{◌≡◌, ◌≤◌, ◌++◌, codes, decimal};
+// The lines that a command ends with.
+ghost use Rattle.std.specs.Prelude.{◌≡◌, ◌≤◌, ◌+◌, ◌++◌, codes, decimal};
 ghost use Rattle.arrayvec.specs.ArrayString.{array_string_len};
-ghost use Rattle.rvv_meaning.specs.Texts.{newline};
-ghost use Rattle.cape.specs.Lines.{line_of};
+ghost use Rattle.rvv_meaning.specs.Texts.{newline, hex_word};
+ghost use Rattle.cape.specs.Lines.{line_of, refused_line as line_for};
 
-use arrayvec::ArrayString;
+use crate::text::{Line, push_hex};
+use elf_load::LoadFault;
+use guest_mem::Trap;
 use itoa::Buffer;
 use machine::Step;
-
-/// A line of text.
-pub type Line = ArrayString<240>;
 
 // ` after N` and the end of the line.
 fn push_after(line: &mut Line, retired: u64)
@@ -22,8 +21,22 @@ fn push_after(line: &mut Line, retired: u64)
     line.push_str("\n");
 }
 
+// What a trap was.
+fn push_trap(line: &mut Line, trap: Trap)
+    requires { array_string_len line.old ≤ 40 }
+    ensures text { line.new.bytes ≡ line.old.bytes ++ decimal trap.cause ++ codes " at " ++ hex_word trap.pc ++ codes " value " ++ hex_word trap.value }
+    ensures room { array_string_len line.new ≤ array_string_len line.old + 40 }
+{
+    let mut digits = Buffer::new();
+    line.push_str(digits.format(trap.cause));
+    line.push_str(" at ");
+    push_hex(line, trap.pc);
+    line.push_str(" value ");
+    push_hex(line, trap.value);
+}
+
 /// The line for an answer.
-pub fn report_line(answer: Step, retired: u64) -> Line
+pub(crate) fn report_line(answer: Step, retired: u64) -> Line
     ensures { result.bytes ≡ line_of answer retired }
 {
     let mut line = Line::new();
@@ -34,11 +47,30 @@ pub fn report_line(answer: Step, retired: u64) -> Line
             line.push_str(digits.format(code));
             push_after(&mut line, retired);
         }
+        Step::Trapped(trap) => {
+            line.push_str("cape: trap ");
+            push_trap(&mut line, trap);
+            push_after(&mut line, retired);
+        }
         Step::Ran => {
             line.push_str("cape: step limit");
             push_after(&mut line, retired);
         }
         Step::Unbuilt => line.push_str("cape: unbuilt\n"),
     }
+    line
+}
+
+/// The line for an image that is refused.
+pub(crate) fn refused_line(fault: LoadFault) -> Line
+    ensures { result.bytes ≡ line_for fault }
+{
+    let mut line = Line::new();
+    let mut digits = Buffer::new();
+    line.push_str("cape: refused ");
+    line.push_str(digits.format(fault.number()));
+    line.push_str(" ");
+    line.push_str(fault.name());
+    line.push_str("\n");
     line
 }

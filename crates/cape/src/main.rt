@@ -2,11 +2,13 @@
 #![tactic(auto)]
 
 mod ending;
+mod layout;
 mod lines;
 mod loading;
 mod running;
 #[cfg(test)]
 mod tests;
+mod text;
 mod top;
 mod words;
 

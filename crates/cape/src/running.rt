@@ -6,7 +6,7 @@ ghost use Rattle.rvv_meaning.specs.States.{run};
 ghost use Rattle.machine.specs.Moments.{Moment, moments};
 ghost use Rattle.machine.specs.Views.{Shows};
 ghost use Rattle.machine.specs.Answers.{answer_of};
-ghost use Rattle.cape.specs.Endings.{IsOfRun, EndsBy, ending_of, FaultsBefore, budget, status_for_answer, held_for};
+ghost use Rattle.cape.specs.Endings.{IsOfRun, KeepsMachine, EndsBy, ending_of, FaultsBefore, budget, status_for_answer, held_for};
 
 use crate::ending::Status;
 use crate::lines::report_line;
@@ -23,6 +23,7 @@ fn status_for(answer: Step) -> Status
     match answer {
         Step::Ran => Status::StepLimit,
         Step::Exited(code) => Status::Exited(code),
+        Step::Trapped(_) => Status::Trapped,
         Step::Unbuilt => Status::Unbuilt,
     }
 }
@@ -35,8 +36,7 @@ fn keep(kept: &mut Option<Machine>, machine: Machine, answer: Step)
 {
     match answer {
         Step::Unbuilt => {}
-        Step::Ran => *kept = Some(machine),
-        Step::Exited(_) => *kept = Some(machine),
+        Step::Ran | Step::Exited(_) | Step::Trapped(_) => *kept = Some(machine),
     }
 }
 
@@ -58,7 +58,7 @@ pub(crate) fn run_machine<S: Source, O: Sink, E: Sink>(
         → FaultsBefore (ending_of (run m.state budget) (moments m budget).slices) first_out (O.held out.new) first_err (E.held err.new) }
     ensures only { IsOfRun result ⊎ (result ≡ Status.WriteFault) }
     ensures write { result ≡ Status.WriteFault → Rose (O.faults out.old) (O.faults out.new) ⊎ Rose (E.faults err.old) (E.faults err.new) }
-    ensures kept { result ≡ Status.WriteFault → kept.new ≡ None }
+    ensures kept { KeepsMachine result ⊎ (kept.new ≡ None) }
     ensures later_input { S.faults input.old ≤ S.faults input.new }
     ensures later_out { O.faults out.old ≤ O.faults out.new }
     ensures later_err { E.faults err.old ≤ E.faults err.new }

@@ -4,6 +4,7 @@ ghost use Rattle.std.specs.Prelude.{◌≤◌, length};
 use crate::ending::Status;
 use crate::top::cape;
 use cape_io::{MemFiles, MemSink, MemSource, SureFiles, SureSink, SureSource};
+use elf_load::LoadFault;
 use machine::Machine;
 use std::alloc::Global;
 use std::test::Fail;
@@ -115,7 +116,7 @@ fn a_splat_and_an_exclusive_or_exit_with_seven(rt: HostRuntime) -> Result<(), Fa
     let alloc = rt.alloc();
     let image = image(alloc, &SPLAT)?;
     let ended = run_of(alloc, &image)?;
-    assert_eq!(rt; ended.status, Status::Exited(7));
+    assert!(rt; ended.status == Status::Exited(7));
     assert_eq!(rt; ended.out.len(), 0);
     assert_eq!(rt;
         ended.err.as_slice(),
@@ -159,7 +160,7 @@ fn a_run_over_sure_devices_ends_the_same(rt: HostRuntime) -> Result<(), Fail> {
         &mut err,
         &mut kept,
     );
-    assert_eq!(rt; status, Status::Exited(7));
+    assert!(rt; status == Status::Exited(7));
     assert_eq!(rt; out.len(), 0);
     assert_eq!(rt; err.len(), 23);
     assert!(rt; kept.is_some());
@@ -170,7 +171,7 @@ fn a_run_over_sure_devices_ends_the_same(rt: HostRuntime) -> Result<(), Fail> {
 fn a_guest_writes_before_the_report(rt: HostRuntime) -> Result<(), Fail> {
     let alloc = rt.alloc();
     let ended = run_of(alloc, &image(alloc, &HELLO)?)?;
-    assert_eq!(rt; ended.status, Status::Exited(0));
+    assert!(rt; ended.status == Status::Exited(0));
     assert_eq!(rt; ended.out.as_slice(), b"hi\n".as_slice());
     assert_eq!(rt;
         ended.err.as_slice(),
@@ -210,37 +211,120 @@ fn words_outside_the_grammar_are_a_usage_error(rt: HostRuntime) -> Result<(), Fa
     assert!(rt; is_usage(alloc, &["run", "A", "--vlen", "48"], &image)?);
     assert!(rt; is_usage(alloc, &["run", "A", "A"], &image)?);
     assert!(rt; is_usage(alloc, &["Run", "A"], &image)?);
+    assert!(rt; is_usage(alloc, &["check"], &image)?);
+    assert!(rt; is_usage(alloc, &["check", "A", "A"], &image)?);
     assert!(rt; is_usage(alloc, &["help"], &image)?);
     Ok(())
+}
+
+// Whether a run of the image ends so, with this error output and nothing else.
+fn ends_so(alloc: Global, image: &[u8], status: Status, err: &[u8]) -> Result<bool, Fail> {
+    let ended = run_of(alloc, image)?;
+    Ok(ended.status == status && ended.err.as_slice() == err && ended.out.is_empty())
 }
 
 #[test]
 fn what_is_not_built_ends_a_run(rt: HostRuntime) -> Result<(), Fail> {
     let alloc = rt.alloc();
-    let mut other = image(alloc, &SPLAT)?;
-    other.push(0)?;
-    let long = vec![in alloc; 0u8; 5000]?;
-    let images = [
-        (other, "another form"),
-        (long, "past the limit"),
-        (Vec::new(alloc), "no bytes"),
-        (image(alloc, &[])?, "no words"),
-        (image(alloc, &[0x00000033])?, "add"),
-        (image(alloc, &[0x00000013])?, "past the image"),
-        (image(alloc, &[0x00000073])?, "another call"),
-        (image(alloc, &[0x5e0540d7])?, "no setting in force"),
-        (image(alloc, &[0xcd027057, 0x2c108157])?, "masked"),
+    let programs: [(&[u32], &str); 5] = [
+        (&[], "no words"),
+        (&[0x00000033], "add"),
+        (&[0x00000013], "past the words"),
+        (&[0x00000073], "another call"),
+        (&[0xcd027057, 0x2c108157], "masked"),
     ];
-    for (image, name) in images.iter() {
-        let ended = run_of(alloc, image)?;
-        assert_eq!(rt; ended.status, Status::Unbuilt, "{name}");
-        assert_eq!(rt;
-            ended.err.as_slice(),
-            b"cape: unbuilt\n".as_slice(),
+    for (words, name) in programs.iter() {
+        assert!(rt; words.len() < 9);
+        let image = image(alloc, words)?;
+        assert!(rt;
+            ends_so(alloc, &image, Status::Unbuilt, b"cape: unbuilt\n")?,
             "{name}"
         );
-        assert_eq!(rt; ended.out.len(), 0, "{name}");
-        assert!(rt; ended.kept.is_none(), "{name}");
+    }
+    Ok(())
+}
+
+#[test]
+fn a_trap_ends_a_run(rt: HostRuntime) -> Result<(), Fail> {
+    let alloc = rt.alloc();
+    let vill = image(alloc, &[0x5e0540d7])?;
+    let line = b"cape: trap 2 at 00010054 value 5e0540d7 after 0\n";
+    assert!(rt; ends_so(alloc, &vill, Status::Trapped, line)?);
+    let words = vec![in alloc; 0x00000013u32; 1003]?;
+    assert!(rt; words.len() < 1004);
+    let past = image(alloc, &words)?;
+    let line = b"cape: trap 1 at 00011000 value 00011000 after 1003\n";
+    assert!(rt; ends_so(alloc, &past, Status::Trapped, line)?);
+    Ok(())
+}
+
+// A write that is refused answers the low byte of -9 or of -14, with which the guest exits.
+#[test]
+fn a_write_that_is_refused_puts_nothing(rt: HostRuntime) -> Result<(), Fail> {
+    let alloc = rt.alloc();
+    let descriptor = image(
+        alloc,
+        &[0x00300513, 0x04000893, 0x00000073, 0x05d00893, 0x00000073],
+    )?;
+    let line = b"cape: exited 247 after 5\n";
+    assert!(rt; ends_so(alloc, &descriptor, Status::Exited(247), line)?);
+    let range = image(
+        alloc,
+        &[
+            0x00100513, 0x00100613, 0x04000893, 0x00000073, 0x05d00893, 0x00000073,
+        ],
+    )?;
+    let line = b"cape: exited 242 after 6\n";
+    assert!(rt; ends_so(alloc, &range, Status::Exited(242), line)?);
+    Ok(())
+}
+
+// The image is cut off after so many bytes.
+#[test]
+fn an_image_with_a_fault_is_refused(rt: HostRuntime) -> Result<(), Fail> {
+    let alloc = rt.alloc();
+    let image = image(alloc, &SPLAT)?;
+    let cases: [(usize, LoadFault, &[u8]); 3] = [
+        (0, LoadFault::TooShort, b"cape: refused 2 TooShort\n"),
+        (51, LoadFault::TooShort, b"cape: refused 2 TooShort\n"),
+        (
+            52,
+            LoadFault::HeadersPastEnd,
+            b"cape: refused 12 HeadersPastEnd\n",
+        ),
+    ];
+    for (len, fault, line) in cases.iter() {
+        assert!(rt; *len <= image.len());
+        assert!(rt; ends_so(alloc, &image[..*len], Status::Refused(*fault), line)?);
+    }
+    Ok(())
+}
+
+#[test]
+fn a_check_shows_what_would_be_mapped(rt: HostRuntime) -> Result<(), Fail> {
+    let alloc = rt.alloc();
+    let image = image(alloc, &SPLAT)?;
+    let text =
+        b"ok entry 00010054\nmap 00010000 00011000 r-x\nmap 00011000 01011000 rw-\nmap 7ff00000 80000000 rw-\n";
+    let fails: [(u64, usize); 1] = [(1, 3)];
+    for (out_fails, status, len) in [
+        (&fails[..0], Status::Done, 96),
+        (&fails[..], Status::WriteFault, 21),
+    ] {
+        let ended = end_of(
+            alloc,
+            &Case {
+                words: &["check", "A"],
+                image: &image,
+                file_fails: &[],
+                out_fails,
+                err_fails: &[],
+            },
+        )?;
+        assert!(rt; ended.status == status);
+        assert!(rt; ended.err.is_empty() && ended.kept.is_none());
+        assert_eq!(rt; ended.out.len(), len);
+        assert!(rt; text.starts_with(ended.out.as_slice()));
     }
     Ok(())
 }
@@ -313,7 +397,7 @@ fn devices_that_fail_end_the_call(rt: HostRuntime) -> Result<(), Fail> {
     ];
     for (case, status, out, err) in cases.iter() {
         let ended = end_of(alloc, case)?;
-        assert_eq!(rt; ended.status, *status);
+        assert!(rt; ended.status == *status);
         assert_eq!(rt; ended.out.as_slice(), *out);
         assert_eq!(rt; ended.err.as_slice(), *err);
         assert!(rt; ended.kept.is_none());
@@ -324,9 +408,12 @@ fn devices_that_fail_end_the_call(rt: HostRuntime) -> Result<(), Fail> {
 #[test]
 fn each_status_has_its_code(rt: HostRuntime) {
     for (status, code) in [
+        (Status::Done, 0),
         (Status::Exited(7), 7),
         (Status::Unbuilt, 120),
+        (Status::Trapped, 121),
         (Status::StepLimit, 122),
+        (Status::Refused(LoadFault::Dynamic), 123),
         (Status::Usage, 124),
         (Status::ReadFault, 125),
         (Status::WriteFault, 126),

@@ -1,6 +1,7 @@
 -- Lemmas on pages.
 pub mod Finding
 pub mod Ranges
+pub mod InPage
 pub mod Loads
 pub mod Storing
 pub mod Writing

@@ -1,10 +1,19 @@
--- The regions one after the other.
+-- The pages that get permissions, and the regions, one after the other.
 use Rattle.std.proofs.Common.{◌≡◌, ℕ, suc, ◌+◌, ◌<◌, ◌≤◌, List, [], ◌∷◌, drop, get_or, length, refl, arith}
 use Rattle.std.proofs.Math.Seq.{drop-cons}
 use Rattle.std.proofs.lemmas.List.{drop_all}
-use Rattle.guest_mem.specs.Pages.{Pages}
+use Rattle.std.specs.FinMap as fin
+use Rattle.guest_mem.specs.Pages.{Pages, granted, joined}
 use Rattle.guest_mem.specs.Opening.{laid, laid_all}
 use Rattle.guest_mem.specs.declared.regions.Region.{Region}
+
+pub granted-none : (pages : Pages) (perms first : ℕ) → granted pages perms first 0 ≡ pages
+unfolding granted
+granted-none pages perms first = refl
+
+pub granted-more : (pages : Pages) (perms first n : ℕ) → granted pages perms first (suc n) ≡ granted (fin.insert pages first (joined (fin.get pages first) perms)) perms (first + 1) n
+unfolding granted
+granted-more pages perms first n = refl
 
 laid-one : (pages : Pages) (r : Region) (rest : List Region) → laid_all pages (r ∷ rest) ≡ laid_all (laid pages r) rest
 unfolding laid_all

@@ -1,12 +1,12 @@
--- Bytes that are written within one page, at once.
-use Rattle.std.proofs.Common.{◌≡◌, ℕ, zero, suc, ◌+◌, ◌%◌, ◌^◌, ◌<◌, ◌≤◌, true, false, List, [], ◌∷◌, ◌++◌, length, take, drop, Some, None, refl, sym, ◌∙◌, arith, ⊎_elim}
+-- Bytes that are written: one after the other, and within one page at once.
+use Rattle.std.proofs.Common.{◌≡◌, ℕ, suc, ◌+◌, ◌%◌, ◌^◌, ◌<◌, ◌≤◌, true, false, List, [], ◌∷◌, ◌++◌, length, take, drop, Some, None, refl, sym, ◌∙◌, arith, ⊎_elim}
 use Rattle.std.specs.Prelude.{nat_eq, slice_set}
 use Rattle.std.specs.FinMap as fin
 use Rattle.std.proofs.lemmas.Cmp.{nat_cmp_total}
 use Rattle.std.proofs.lemmas.Bool.{cases_Bool}
 use Rattle.std.proofs.lemmas.Bool.Decides.{nat_tests}
 use Rattle.std.proofs.lemmas.List.{take-append-drop, take_more_set, drop-set-lt, append_assoc, length-set}
-use Rattle.guest_mem.specs.Pages.{Page, Pages, written, put, next, with_byte, page_of, place_of, splice, granted, joined}
+use Rattle.guest_mem.specs.Pages.{Page, Pages, written, put, next, with_byte, page_of, place_of, splice}
 use Rattle.guest_mem.proofs.Finding.{alike}
 
 -- what was before and after them stays
@@ -24,7 +24,7 @@ is-at : (x n : ℕ) → nat_eq n x ≡ true → n ≡ x
 is-at x n e = grind (arith, nat_tests, e)
 
 -- to write back what a page holds changes nothing
-insert-same : (pages : Pages) (n : ℕ) (p : Page) → fin.get pages n ≡ Some p → fin.insert pages n p ≡ pages
+pub insert-same : (pages : Pages) (n : ℕ) (p : Page) → fin.get pages n ≡ Some p → fin.insert pages n p ≡ pages
 insert-same pages n p there =
     fin.same_map nat_cmp_total fin.nat_cmp-IsAntisymmetric (fin.insert pages n p) pages (λ x.
     fin.get-insert nat_cmp_total pages n p x ∙ rw (alike x n) (
@@ -109,28 +109,3 @@ written-append pages a (b ∷ xs) ys fits =
     let same : (next a + length xs) % 2 ^ 32 ≡ (a + suc (length xs)) % 2 ^ 32 = omega arith in
     let rest : written (put pages a b) (next a) (xs ++ ys) ≡ written (written (put pages a b) (next a) xs) ((a + suc (length xs)) % 2 ^ 32) ys = rw same at (written-append (put pages a b) (next a) xs ys (omega arith)) in
     written-more pages a b (xs ++ ys) ∙ rest ∙ rw (written-more pages a b xs) refl
-
-pub granted-none : (pages : Pages) (perms first : ℕ) → granted pages perms first 0 ≡ pages
-unfolding granted
-granted-none pages perms first = refl
-
-pub granted-more : (pages : Pages) (perms first n : ℕ) → granted pages perms first (suc n) ≡ granted (fin.insert pages first (joined (fin.get pages first) perms)) perms (first + 1) n
-unfolding granted
-granted-more pages perms first n = refl
-
-drop-none : (n : ℕ) → drop {A = ℕ} n [] ≡ []
-drop-none zero = refl
-drop-none (suc n) = refl
-
-pub drop-twice : (i n : ℕ) (xs : List ℕ) → drop n (drop i xs) ≡ drop (i + n) xs
-drop-twice zero n xs =
-    let same : 0 + n ≡ n = omega arith in
-    rw same refl
-drop-twice (suc i) n [] = drop-none n ∙ sym (drop-none (suc i + n))
-drop-twice (suc i) n (x ∷ xs) =
-    let more : suc i + n ≡ suc (i + n) = omega arith in
-    rw more (drop-twice i n xs)
-
-pub none-left : (xs : List ℕ) → length xs ≤ 0 → xs ≡ []
-none-left [] none = refl
-none-left (x ∷ xs) none = grind (arith, none)

@@ -1,10 +1,13 @@
 //! Guest memory: pages of 4,096 bytes with permissions, and the break.
 #![tactic(auto)]
 
+mod addresses;
 mod faults;
+mod page_list;
 mod pages;
 mod permissions;
 mod regions;
+mod stored_page;
 #[cfg(test)]
 mod tests;
 

@@ -1,6 +1,5 @@
 // The permissions of a page.
-ghost use Rattle.std.specs.Prelude.{⊤, ◌≡◌, ◌==◌, ◌≤◌, [], ◌∷◌, codes};
-ghost use Rattle.guest_mem.specs.Pages.{allows};
+ghost use Rattle.std.specs.Prelude.{⊤, [], ◌∷◌, codes};
 
 use bitflags::{Flag, Flags, bitflag_items};
 

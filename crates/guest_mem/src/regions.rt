@@ -26,7 +26,7 @@ impl ByteList {
     pub fn new(items: Vec<u8>) -> ByteList
         ensures { result ≡ items.items }
     {
-        ByteList { items: items }
+        ByteList { items }
     }
 
     /// The bytes.

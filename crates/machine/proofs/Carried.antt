@@ -1,11 +1,9 @@
 -- Each kind of instruction, carried out by its method, is a step.
-use Rattle.std.proofs.Common.{◌≡◌, ◌≢◌, ℕ, ◌+◌, ◌*◌, ◌^◌, ◌<◌, ◌≤◌, Bool, true, false, ◌||◌, ◌&&◌, not, List, [], ◌∷◌, ◌++◌, length, take, drop, Option, Some, None, refl, sym, ap, ◌∙◌, append-nil, arith}
+use Rattle.std.proofs.Common.{◌≡◌, ◌≢◌, ℕ, Bool, true, false, ◌||◌, not, List, [], ◌++◌, Option, Some, None, refl, sym, ap, ◌∙◌, append-nil, is_some}
 use Rattle.std.specs.Prelude.{if◌then◌else◌, nat_eq}
-use Rattle.std.specs.Option.{option_and_then}
 use Rattle.std.specs.Io.KnownBytes.{Appends}
-use Rattle.std.proofs.lemmas.Bool.{eqb-true}
-use Rattle.cam_chain.specs.Slices.{Slices}
-use Rattle.cam_chain.specs.ChainValue.{ChainValue, slices_of}
+use Rattle.guest_mem.specs.Pages.{first_bad, loaded}
+use Rattle.cam_chain.specs.ChainValue.{slices_of}
 use Rattle.micro_ir.specs.declared.op.MicroOp.{MicroOp}
 use Rattle.micro_ir.specs.Replay.{replay}
 use Rattle.rvv_meaning.specs.declared.Op.{Op}
@@ -16,9 +14,12 @@ use Rattle.rvv_meaning.specs.declared.Instr.{Instr}
 use Rattle.rvv_meaning.specs.declared.VInstr.{VInstr}
 use Rattle.rvv_meaning.specs.declared.Meaning.{Meaning}
 use Rattle.rvv_meaning.specs.declared.Meaning.TheVariants.{Scalar, Vector}
-use Rattle.rvv_meaning.specs.declared.Mode.TheVariants.{Unbuilt}
+use Rattle.rvv_meaning.specs.declared.Mode.{Mode}
+use Rattle.rvv_meaning.specs.declared.Next.{Next}
+use Rattle.rvv_meaning.specs.declared.Next.TheVariants.{Stop, Perform}
 use Rattle.rvv_meaning.specs.Words.{means}
-use Rattle.rvv_meaning.specs.States.{Core, instruction, core_after, puts, puts_scalar, executed_scalar, executed_vector, called, configured, elementwise, scalar_operand, is_exit, is_write, is_built, if_built, fetched, reg, written_range, in_page}
+use Rattle.rvv_meaning.specs.Calls.{write_bytes}
+use Rattle.rvv_meaning.specs.States.{Core, next, next_for, core_after, puts, puts_scalar, executed_scalar, executed_vector, called, configured, elementwise, scalar_operand, is_exit, is_write, is_built, is_illegal, reg}
 use Rattle.vec_exec.specs.Programs.{prog, is_engine}
 use Rattle.machine.specs.Moments.{Held, program_at}
 use Rattle.machine.specs.Views.{gains_out, gains_err, bytes_out, bytes_err}
@@ -47,18 +48,23 @@ quiet-out merged c out none = rw (gains_out-none merged c none) (appends_none ou
 pub quiet-err : (merged : Bool) (c : Core) (err : Option (List ℕ)) → puts c ≡ [] → Appends err err (gains_err merged c)
 quiet-err merged c err none = rw (gains_err-none merged c none) (appends_none err)
 
-if_built-built : (b : Bool) (m n : Meaning) → (if b then Some m else None) ≡ Some n → (b ≡ true) × (m ≡ n)
-if_built-built true m n is = (refl, cc)
-if_built-built false m n is = cc
+chosen : (built illegal : Bool) (a b : Mode) (n m : Meaning) → (if not built then Stop a else if illegal then Stop b else Perform n) ≡ Perform m → (built ≡ true) × (n ≡ m)
+chosen false illegal a b n m is = cc
+chosen true true a b n m is = cc
+chosen true false a b n m is = (refl, cc)
 
-built-meaning : (c : Core) (o : Option Meaning) (m : Meaning) → option_and_then (if_built c) o ≡ Some m → is_built m c ≡ true
-built-meaning c None m is = cc
-built-meaning c (Some n) m is = let p = if_built-built (is_built n c) n m is in rw (← p.1) p.0
+performed : (c : Core) (word : ℕ) (o : Option Meaning) (m : Meaning) → next_for c word o ≡ Perform m → is_built m c ≡ true
+performed c word None m is = cc
+performed c word (Some n) m is = let p = chosen (is_built n c) (is_illegal n c) _ _ n m is in rw (← p.1) p.0
 
--- the instruction at pc is built
-built : (c : Core) (m : Meaning) → instruction c ≡ Some m → is_built m c ≡ true
-unfolding instruction
-built c m is = built-meaning c _ m is
+-- an instruction that is to be carried out is built
+built-by : (c : Core) (m : Meaning) (word : ℕ) (stop : Mode) (bad : Bool) (o : Option Meaning) → (if bad then Stop stop else next_for c word o) ≡ Perform m → is_built m c ≡ true
+built-by c m word stop true o is = cc
+built-by c m word stop false o is = performed c word o m is
+
+built : (c : Core) (m : Meaning) → next c ≡ Perform m → is_built m c ≡ true
+unfolding next
+built c m is = built-by c m _ _ _ _ is
 
 -- a method that leaves the program of the last step leaves none where there was none
 pub emptied : (old new : Held) (core : Core) → old.last ≡ [] → new ≡ record old { core = core } → new ≡ record old { core = core; last = [] }
@@ -66,14 +72,14 @@ emptied old new core none is = is ∙ ap (λ (ops : List MicroOp). record old { 
 
 module _ (merged : Bool) (old new : Held) (out err : Option (List ℕ)) where
   -- the machine stopped
-  pub carries-stop : instruction old.core ≡ None → new ≡ record old { core = record old.core { mode = Unbuilt }; last = [] } → Carries merged old new out out err err
+  pub carries-stop : (mode : Mode) → next old.core ≡ Stop mode → new ≡ record old { core = record old.core { mode = mode }; last = [] } → Carries merged old new out out err err
   unfolding core_after program_at puts
-  carries-stop none is =
+  carries-stop mode none is =
       let silent : puts old.core ≡ [] = rw none refl in
       rw is record { core = rw none refl; slices = rw none refl; last = rw none refl; live = refl; gained_out = quiet-out merged old.core out silent; gained_err = quiet-err merged old.core err silent }
 
   -- a scalar instruction that is no call
-  pub carries-scalar : (i : Instr) → instruction old.core ≡ Some (Scalar i) → i.op ≢ Ecall → new ≡ record old { core = executed_scalar i.op i old.core; last = [] } → Carries merged old new out out err err
+  pub carries-scalar : (i : Instr) → next old.core ≡ Perform (Scalar i) → i.op ≢ Ecall → new ≡ record old { core = executed_scalar i.op i old.core; last = [] } → Carries merged old new out out err err
   unfolding core_after program_at puts
   carries-scalar i there plain is =
       let silent : puts old.core ≡ [] = rw there (no_puts i.op plain) in
@@ -85,7 +91,7 @@ module _ (merged : Bool) (old new : Held) (out err : Option (List ℕ)) where
       no_puts Ecall plain = absurd (plain refl)
 
   -- a configuration
-  pub carries-configuration : (i : VInstr) → instruction old.core ≡ Some (Vector i) → is_engine i.op ≡ false → new ≡ record old { core = configured i old.core; last = [] } → Carries merged old new out out err err
+  pub carries-configuration : (i : VInstr) → next old.core ≡ Perform (Vector i) → is_engine i.op ≡ false → new ≡ record old { core = configured i old.core; last = [] } → Carries merged old new out out err err
   unfolding core_after program_at puts
   carries-configuration i there plain is =
       let silent : puts old.core ≡ [] = rw there refl in
@@ -97,7 +103,7 @@ module _ (merged : Bool) (old new : Held) (out err : Option (List ℕ)) where
       settles VmvVx plain = cc
 
   -- an instruction with a program
-  pub carries-program : (i : VInstr) → instruction old.core ≡ Some (Vector i) → is_engine i.op ≡ true
+  pub carries-program : (i : VInstr) → next old.core ≡ Perform (Vector i) → is_engine i.op ≡ true
       → new.core ≡ elementwise i old.core
       → slices_of new.chain ≡ replay (prog i old.core.csrs (scalar_operand i.op i old.core)) (record (slices_of old.chain) { num = 0 })
       → new.last ≡ prog i old.core.csrs (scalar_operand i.op i old.core)
@@ -121,45 +127,25 @@ module _ (merged : Bool) (old new : Held) (out err : Option (List ℕ)) where
       works VmvVx runs = refl
 
 -- a call that is the exit writes nothing
-pub exit-puts : (c : Core) (i : Instr) → instruction c ≡ Some (Scalar i) → i.op ≡ Ecall → is_exit c ≡ true → puts c ≡ []
+pub exit-puts : (c : Core) (i : Instr) → next c ≡ Perform (Scalar i) → i.op ≡ Ecall → is_exit c ≡ true → puts c ≡ []
 unfolding puts
 exit-puts c i there call exit = rw (there, call, exit) refl
 
--- any other call that is built is a write to the output
-write-built : (a b : Bool) → (a || b) ≡ true → a ≡ false → b ≡ true
-write-built true b one going = cc
-write-built false b one going = one
+-- any other call that is built is a write
+one-of : (a b : Bool) → (a || b) ≡ true → a ≡ false → b ≡ true
+one-of true b one going = cc
+one-of false b one going = one
 
-pub is-write : (c : Core) (i : Instr) → instruction c ≡ Some (Scalar i) → i.op ≡ Ecall → is_exit c ≡ false → is_write c ≡ true
-is-write c i there call going = write-built (is_exit c) (is_write c) (rw call at (built c (Scalar i) there)) going
+pub is-write : (c : Core) (i : Instr) → next c ≡ Perform (Scalar i) → i.op ≡ Ecall → is_exit c ≡ false → is_write c ≡ true
+is-write c i there call going = one-of (is_exit c) (is_write c) (rw call at (built c (Scalar i) there)) going
 
-descriptor : (a b d : Bool) → (a && b && d) ≡ true → b ≡ true
-descriptor true true d is = refl
-descriptor true false d is = is
-descriptor false b d is = cc
-
-write-puts : (c : Core) (i : Instr) → instruction c ≡ Some (Scalar i) → i.op ≡ Ecall → is_exit c ≡ false → puts c ≡ written_range c
+-- what it puts
+pub write-puts : (c : Core) (i : Instr) → next c ≡ Perform (Scalar i) → i.op ≡ Ecall → is_exit c ≡ false → puts c ≡ write_bytes c.mem.pages (reg c 10) (reg c 11) (reg c 12)
 unfolding puts
 write-puts c i there call going = rw (there, call, going) refl
 
-to-output : (c : Core) → is_write c ≡ true → nat_eq (reg c 10) 1 ≡ true
-to-output c write = descriptor (nat_eq (reg c 17) 64) (nat_eq (reg c 10) 1) (in_page (reg c 11) (reg c 12)) write
-
-not-two : (n : ℕ) → nat_eq n 1 ≡ true → nat_eq n 2 ≡ false
-not-two n is = rw (eqb-true n 1 is) refl
-
-pub write-gains_out : (merged : Bool) (c : Core) (i : Instr) → instruction c ≡ Some (Scalar i) → i.op ≡ Ecall → is_exit c ≡ false
-    → gains_out merged c ≡ bytes_out merged (written_range c)
-write-gains_out true c i there call going = refl
-write-gains_out false c i there call going = rw (to-output c (is-write c i there call going)) (write-puts c i there call going)
-
-pub write-gains_err : (merged : Bool) (c : Core) (i : Instr) → instruction c ≡ Some (Scalar i) → i.op ≡ Ecall → is_exit c ≡ false
-    → gains_err merged c ≡ bytes_err merged (written_range c)
-write-gains_err true c i there call going = write-puts c i there call going
-write-gains_err false c i there call going = rw (not-two (reg c 10) (to-output c (is-write c i there call going))) refl
-
 -- a call that went
-pub carries-call : (merged : Bool) (old new : Held) (out out' err err' : Option (List ℕ)) (i : Instr) → instruction old.core ≡ Some (Scalar i) → i.op ≡ Ecall
+pub carries-call : (merged : Bool) (old new : Held) (out out' err err' : Option (List ℕ)) (i : Instr) → next old.core ≡ Perform (Scalar i) → i.op ≡ Ecall
     → new ≡ record old { core = called old.core; last = [] } → Appends out out' (gains_out merged old.core) → Appends err err' (gains_err merged old.core)
     → Carries merged old new out out' err err'
 unfolding core_after program_at

@@ -1,12 +1,13 @@
 -- How a machine answers.
 use Rattle.std.specs.Prelude.{ℕ}
 use Rattle.rvv_meaning.specs.declared.Mode.{Mode}
-use Rattle.rvv_meaning.specs.declared.Mode.TheVariants.{Running, Exited, Unbuilt}
+use Rattle.rvv_meaning.specs.declared.Mode.TheVariants.{Running, Exited, Trapped, Unbuilt}
 use Rattle.machine.specs.declared.answers.Step.{Step}
-use Rattle.machine.specs.declared.answers.Step.TheVariants.{Ran, Exited as SaysExited, Unbuilt as SaysUnbuilt}
+use Rattle.machine.specs.declared.answers.Step.TheVariants.{Ran, Exited as SaysExited, Trapped as SaysTrapped, Unbuilt as SaysUnbuilt}
 
 -- the answer for a mode
 abbrev pub answer_of : Mode → Step
 answer_of Running = Ran
 answer_of (Exited c) = SaysExited c
+answer_of (Trapped t) = SaysTrapped t
 answer_of Unbuilt = SaysUnbuilt

@@ -4,3 +4,4 @@ pub mod Views
 pub mod Answers
 pub mod Fields
 pub mod Carrying
+pub mod Opening

@@ -4,9 +4,10 @@ use Rattle.cam_chain.specs.Slices.{Slices, blank}
 use Rattle.cam_chain.specs.ChainValue.{ChainValue}
 use Rattle.micro_ir.specs.declared.op.MicroOp.{MicroOp}
 use Rattle.micro_ir.specs.Replay.{replay}
-use Rattle.rvv_meaning.specs.declared.Meaning.{Meaning}
 use Rattle.rvv_meaning.specs.declared.Meaning.TheVariants.{Scalar, Vector}
-use Rattle.rvv_meaning.specs.States.{Core, State, instruction, scalar_operand, step, is_running}
+use Rattle.rvv_meaning.specs.declared.Next.{Next}
+use Rattle.rvv_meaning.specs.declared.Next.TheVariants.{Stop, Perform}
+use Rattle.rvv_meaning.specs.States.{Core, State, next, scalar_operand, step, is_running}
 use Rattle.vec_exec.specs.Programs.{prog, is_engine}
 
 -- What contracts see of a machine: what it holds of the guest, the chain whose rows 0 to 31 are the vector registers,
@@ -24,14 +25,14 @@ pub record Moment : Type 0 where
   pub last : List MicroOp
 
 -- the program of an instruction, where it has one
-abbrev pub program_of : Option Meaning → Core → Option (List MicroOp)
-program_of None c = None
-program_of (Some (Scalar i)) c = None
-program_of (Some (Vector i)) c = if is_engine i.op then Some (prog i c.csrs (scalar_operand i.op i c)) else None
+abbrev pub program_of : Next → Core → Option (List MicroOp)
+program_of (Stop mode) c = None
+program_of (Perform (Scalar i)) c = None
+program_of (Perform (Vector i)) c = if is_engine i.op then Some (prog i c.csrs (scalar_operand i.op i c)) else None
 
 -- the program of the instruction at pc
 unfoldable pub program_at : Core → Option (List MicroOp)
-program_at c = program_of (instruction c) c
+program_at c = program_of (next c) c
 
 -- The slices after a step. A program is replayed from the control number 0; no other instruction that is built writes
 -- a vector register, so the slices stay.

@@ -1,8 +1,10 @@
 -- When objects show a moment: what the machine holds, what a source has left, and what two sinks have gained.
-use Rattle.std.specs.Prelude.{◌≡◌, ◌==◌, ℕ, ◌<◌, Bool, true, List, [], ◌∷◌, ◌++◌, Option, Some, None, if◌then◌else◌}
+use Rattle.std.specs.Prelude.{◌≡◌, ◌==◌, ◌||◌, ℕ, ◌<◌, Bool, true, List, [], ◌++◌, Option, Some, if◌then◌else◌, MatchBool}
 use Rattle.std.specs.Io.KnownBytes.{Appends}
+use Rattle.cape_io.specs.Devices.{Rose}
 use Rattle.cam_chain.specs.ChainValue.{slices_of}
-use Rattle.rvv_meaning.specs.States.{Core, State, reg, puts, put_on, in_page}
+use Rattle.rvv_meaning.specs.Calls.{is_output, is_readable}
+use Rattle.rvv_meaning.specs.States.{Core, State, reg, puts}
 use Rattle.machine.specs.Moments.{Held, Moment, moments}
 
 -- What the two sinks gain of a state. Apart, they are the output and the error output; merged, the second gains the
@@ -13,19 +15,19 @@ shown_out merged s = if merged then [] else s.output
 abbrev pub shown_err : Bool → State → List ℕ
 shown_err merged s = if merged then s.joint else s.errors
 
+-- what they gain of bytes that a call puts on a descriptor: 1 is the output, 2 the error output
+abbrev pub bytes_out : Bool → ℕ → List ℕ → List ℕ
+bytes_out merged descriptor bytes = if merged then [] else if descriptor == 1 then bytes else []
+
+abbrev pub bytes_err : Bool → ℕ → List ℕ → List ℕ
+bytes_err merged descriptor bytes = if merged then bytes else if descriptor == 2 then bytes else []
+
 -- what they gain in a step
 abbrev pub gains_out : Bool → Core → List ℕ
-gains_out merged c = if merged then [] else put_on 1 c
+gains_out merged c = bytes_out merged (reg c 10) (puts c)
 
 abbrev pub gains_err : Bool → Core → List ℕ
-gains_err merged c = if merged then puts c else put_on 2 c
-
--- what they gain of bytes that a call writes to the output
-abbrev pub bytes_out : Bool → List ℕ → List ℕ
-bytes_out merged bytes = if merged then [] else bytes
-
-abbrev pub bytes_err : Bool → List ℕ → List ℕ
-bytes_err merged bytes = if merged then bytes else []
+gains_err merged c = bytes_err merged (reg c 10) (puts c)
 
 -- The moment is what the objects show: the input is told, and each sink that tells its bytes holds what it held in the
 -- beginning and then what it gains of the state.
@@ -62,9 +64,13 @@ RunsOn n k merged old new left left' out out' err err' =
     (m : Moment) (first_out first_err : Option (List ℕ)) → Shows merged m old left first_out out first_err err
     → (t : Moment) × Shows merged t new left' first_out out' first_err err' × (moments m n ≡ moments t k)
 
--- the machine stands at a call that writes some bytes of the page to the output
+-- the count that rises where a put on a descriptor fails is that of the sink that takes its bytes
+abbrev pub IsFaultOf : Bool → ℕ → ℕ → ℕ → ℕ → ℕ → Type 0
+IsFaultOf merged descriptor out out' err err' = MatchBool (merged || (descriptor == 2)) (Rose err err') (Rose out out')
+
+-- the machine stands at a call that writes some bytes that may be read to one of the outputs
 pub record IsWriting (c : Core) : Type 0 where
   pub number : reg c 17 ≡ 64
-  pub descriptor : reg c 10 ≡ 1
+  pub descriptor : is_output (reg c 10) ≡ true
   pub some : 0 < reg c 12
-  pub inside : in_page (reg c 11) (reg c 12) ≡ true
+  pub inside : is_readable c.mem.pages (reg c 11) (reg c 12) ≡ true

@@ -1,4 +1,5 @@
 // How the calls of a machine answer.
+use guest_mem::Trap;
 use thiserror::Error;
 
 /// How a step or a run answers: by the mode of the state that it leaves.
@@ -8,6 +9,8 @@ pub enum Step {
     Ran,
     /// The guest exited with this code.
     Exited(u8),
+    /// The guest trapped, with the machine at the instruction.
+    Trapped(Trap),
     /// The instruction at pc is not built yet.
     Unbuilt,
 }

@@ -1,37 +1,35 @@
 // The machine and its steps.
-ghost use Rattle.std.specs.Prelude.{◌≡◌, ◌+◌, ◌-◌, ◌*◌, ◌/◌, ◌%◌, ◌<◌, ◌≤◌, ◌^◌, ◌++◌, ◌||◌, [], true, false, Some, replicate, length, vec_len, OnOk, OnErr, IfOk, IfSome, IsErrOf, MatchBool, slice_index, slice_index_or};
-ghost use Rattle.cape_io.specs.Devices.{PutsFront, Rose};
+ghost use Rattle.std.specs.Prelude.{◌≡◌, ◌+◌, ◌*◌, ◌/◌, ◌<◌, ◌≤◌, ◌^◌, [], true, false, length, OnOk, OnErr, IfOk, IsErrOf, slice_index, slice_index_or};
 ghost use Rattle.std.specs.Io.KnownBytes.{Appends};
+ghost use Rattle.cape_io.specs.Devices.{PutsFront};
 ghost use Rattle.cam_chain.specs.Slices.{blank};
 ghost use Rattle.cam_chain.specs.ChainValue.{slices_of, no_counts};
 ghost use Rattle.micro_ir.specs.Replay.{replay};
-ghost use Rattle.rvv_meaning.specs.States.{Core, fetched, instruction, set_reg, is_exit, is_write, is_built, in_page, core_after, executed_scalar, configured, elementwise, called, written_range, scalar_operand};
+ghost use Rattle.rvv_meaning.specs.declared.Meaning.TheVariants.{Scalar};
+ghost use Rattle.rvv_meaning.specs.declared.Next.TheVariants.{Perform};
+ghost use Rattle.rvv_meaning.specs.Words.{means};
+ghost use Rattle.rvv_meaning.specs.States.{Core, next, next_for, trap, set_reg, reg, is_built, is_illegal, core_after, executed_scalar, configured, elementwise, called, scalar_operand};
 ghost use Rattle.rvv_meaning.specs.Images.{start_core};
 ghost use Rattle.vec_exec.specs.Programs.{NamesRegisters, prog, is_engine};
 ghost use Rattle.machine.specs.Answers.{answer_of};
-ghost use Rattle.machine.specs.Fields.{ScalarFields, FieldsFit};
+ghost use Rattle.machine.specs.Fields.{ScalarFields, NextFits};
 ghost use Rattle.machine.specs.Moments.{moment_after, moments};
-ghost use Rattle.machine.specs.Views.{GoesBy, FaultsIn, IsWriting, gains_out, gains_err, bytes_out, bytes_err};
+ghost use Rattle.machine.specs.Opening.{memory_of};
+ghost use Rattle.machine.specs.Views.{GoesBy, FaultsIn, IsWriting, IsFaultOf, gains_out, gains_err};
 ghost use Rattle.machine.specs.Carrying.{Carries, Fails};
-ghost use Rattle.rvv_meaning.specs.declared.Meaning.TheVariants.{Scalar};
 
 use crate::answers::{DeviceFault, Step};
-use crate::image::Loaded;
+use crate::calls::write;
 use crate::words::decode;
 use cam_chain::{Chain, Counts};
 use cape_io::{Sink, Source};
+use elf_load::Loaded;
+use guest_mem::{Mem, Trap};
 use micro_ir::{Control, MicroBuf, replay};
-use rvv_meaning::{Csrs, Instr, Meaning, Mode, Op, Policy, VInstr, VOp};
+use rvv_meaning::{Csrs, Instr, Meaning, Mode, Next, Op, Policy, VInstr, VOp};
 use std::alloc::{AllocError as NoMemory, Global};
 use std::marker::Model;
 use vec_exec::{engine, plan};
-
-// Where the one page of memory begins, its bytes, and the last place where a word may begin in it.
-const PAGE_START: u32 = 0x10000;
-
-const PAGE_SIZE: u32 = 4096;
-
-const LAST_WORD: u32 = 4092;
 
 // The stack pointer and its place at the start.
 const STACK_POINTER: usize = 2;
@@ -62,13 +60,18 @@ const CALL_EXIT: u32 = 93;
 
 const CALL_WRITE: u32 = 64;
 
+// The causes of traps: a fetch without permission, and an illegal word (RISC-V privileged specification, mcause).
+const FETCH_FAULT: u8 = 1;
+
+const ILLEGAL_WORD: u8 = 2;
+
 /// A machine with its guest's memory, its slices and the program of its last step. After `new` no call takes memory.
 #[derive(Drop)]
 pub struct Machine {
     regs: [u32; 32],
     pc: u32,
     csrs: Csrs,
-    page: Vec<u8>,
+    mem: Mem,
     chain: Chain,
     buf: MicroBuf,
     mode: Mode,
@@ -79,19 +82,22 @@ impl Model for Machine {
     ghost use Rattle.std.specs.Prelude.{◌≡◌, ◌≤◌, ◌+◌, ◌*◌, ◌^◌, length};
     ghost use Rattle.cam_chain.specs.ChainValue.{slices_of};
     ghost use Rattle.cam_chain.specs.Views.{registers_of};
+    ghost use Rattle.std.specs.Coded.{codes};
+    ghost use Rattle.guest_mem.specs.Pages.{memory_code};
     ghost use Rattle.machine.specs.Moments.{Held};
 
     ghost Value = { Held };
 
+    ghost coded = { Prim.hlevel (codes, memory_code) };
+
     ghost view = { λ m. record {
-      core = record { regs = m.regs; pc = m.pc; csrs = m.csrs; page = m.page.items; vectors = registers_of (slices_of m.chain); mode = m.mode };
+      core = record { regs = m.regs; pc = m.pc; csrs = m.csrs; mem = m.mem; vectors = registers_of (slices_of m.chain); mode = m.mode };
       chain = m.chain;
       last = m.buf.ops;
       live = m.live;
     } };
 
     ghost invariant = { λ m. record {
-      page_full : length m.page.items ≡ 4096;
       vlen : m.csrs.vlen ≡ 32 * m.chain.columns;
       room : length m.buf.ops + m.buf.spare ≡ 262144;
       retired : m.csrs.retired ≤ 2 ^ 63;
@@ -99,32 +105,6 @@ impl Model for Machine {
       updates : m.chain.counts.updates ≤ 2 ^ 23 * m.csrs.retired;
       passes : m.chain.counts.passes ≤ 2 ^ 23 * m.csrs.retired;
     } };
-}
-
-// The bytes, and zeros up to a page.
-fn padded(alloc: Global, bytes: Vec<u8>) -> Result<Vec<u8>, NoMemory>
-    requires { vec_len bytes ≤ 4096 }
-    ensures bytes { IfOk result (λ page. page.items ≡ bytes.items ++ replicate (4096 - length bytes.items) 0) }
-    ensures len { IfOk result (λ page. vec_len page ≡ 4096) }
-{
-    let zeros = vec![in alloc; 0u8; PAGE_SIZE as usize - bytes.len()]?;
-    let mut page = bytes;
-    page.extend_from_slice(&zeros)?;
-    Ok(page)
-}
-
-// Puts a piece.
-fn put_to<K: Sink>(sink: &mut K, piece: &[u8]) -> Result<(), DeviceFault>
-    ensures whole { OnOk result (Appends (K.held sink.old) (K.held sink.new) piece.now) }
-    ensures front { OnErr result (PutsFront (K.held sink.old) (K.held sink.new) piece.now) }
-    ensures cause { OnErr result (Rose (K.faults sink.old) (K.faults sink.new)) }
-    ensures no_read { IsErrOf result DeviceFault.ReadFault → ⊥ }
-    ensures later { K.faults sink.old ≤ K.faults sink.new }
-{
-    match sink.put(piece) {
-        Ok(()) => Ok(()),
-        Err(_) => Err(DeviceFault::WriteFault),
-    }
 }
 
 impl Machine {
@@ -139,7 +119,7 @@ impl Machine {
     ) -> Result<Machine, NoMemory>
         requires vlen { vlen ≡ 1024 }
         requires policy { policy ≡ Policy.Keep }
-        ensures core { IfOk result (λ machine. machine.core ≡ start_core vlen loaded.entry_pc loaded.bytes.items) }
+        ensures core { IfOk result (λ machine. machine.core ≡ start_core vlen loaded.entry_pc (memory_of loaded.regions loaded.heap loaded.heap_end)) }
         ensures slices { IfOk result (λ machine. slices_of machine.chain ≡ blank (vlen / 32)) }
         ensures counts { IfOk result (λ machine. machine.chain.counts ≡ no_counts) }
         ensures last { IfOk result (λ machine. machine.last ≡ []) }
@@ -148,8 +128,12 @@ impl Machine {
         ensures fresh { IfOk result (λ machine. machine.core.csrs.retired ≡ 0) }
         ensures length { IfOk result (λ machine. machine.core.csrs.vlen ≡ vlen) }
     {
-        let Loaded { entry_pc, bytes } = loaded;
-        let page = padded(alloc, bytes)?;
+        let mem = Mem::new(
+            alloc,
+            loaded.regions.as_slice(),
+            loaded.heap,
+            loaded.heap_end,
+        )?;
         let chain = Chain::new(alloc, vlen / COLUMN_BITS)?;
         let buf = MicroBuf::new(alloc, PROGRAM_LIMIT)?;
         let mut regs = [0u32; 32];
@@ -165,9 +149,9 @@ impl Machine {
         };
         Ok(Machine {
             regs,
-            pc: entry_pc,
+            pc: loaded.entry_pc,
             csrs,
-            page,
+            mem,
             chain,
             buf,
             mode: Mode::Running,
@@ -230,69 +214,73 @@ impl Machine {
         (word >> (8 * (j % 4)) & 0xff) as u8
     }
 
-    // The word at pc, where it lies in the page.
-    fn fetch(&self) -> Option<u32>
-        ensures { result ≡ fetched self.now.core }
-    {
-        let pc = self.pc;
-        if pc < PAGE_START || pc - PAGE_START > LAST_WORD {
-            return None;
-        }
-        let at = (pc - PAGE_START) as usize;
-        let low = u32::from(self.page[at]) + 0x100 * u32::from(self.page[at + 1]);
-        let high = u32::from(self.page[at + 2]) + 0x100 * u32::from(self.page[at + 3]);
-        Some(low + 0x10000 * high)
-    }
-
-    // Whether the range lies in the page, or is empty.
-    fn is_in_page(at: u32, count: u32) -> bool
-        ensures { result ≡ in_page at count }
-    {
-        count == 0
-            || at >= PAGE_START
-                && at - PAGE_START <= PAGE_SIZE
-                && count <= PAGE_SIZE - (at - PAGE_START)
-    }
-
-    // Whether the machine stands at a write that is built, if it stands at a call.
-    fn is_at_write(&self) -> bool
-        ensures { result ≡ is_write self.now.core }
-    {
-        self.regs[CALL_NUMBER] == CALL_WRITE
-            && self.regs[CALL_FIRST] == 1
-            && Machine::is_in_page(self.regs[CALL_ADDRESS], self.regs[CALL_COUNT])
-    }
-
     // Whether an instruction is built.
     fn is_built(&self, meaning: &Meaning) -> bool
         ensures { result ≡ is_built meaning.now self.now.core }
     {
+        let number = self.regs[CALL_NUMBER];
         match meaning {
             Meaning::Scalar(i) => match i.op {
                 Op::Addi => true,
                 Op::Lui => true,
-                Op::Ecall => self.regs[CALL_NUMBER] == CALL_EXIT || self.is_at_write(),
+                Op::Ecall => number == CALL_EXIT || number == CALL_WRITE,
             },
+            Meaning::Vector(_) => true,
+        }
+    }
+
+    // Whether an instruction is illegal: one on elements, where no setting is in force.
+    fn is_illegal(&self, meaning: &Meaning) -> bool
+        ensures { result ≡ is_illegal meaning.now self.now.core }
+    {
+        match meaning {
+            Meaning::Scalar(_) => false,
             Meaning::Vector(i) => match i.op {
-                VOp::Vsetivli => true,
-                VOp::VxorVv => self.csrs.vtype != VILL,
-                VOp::VmvVx => self.csrs.vtype != VILL,
+                VOp::Vsetivli => false,
+                VOp::VxorVv => self.csrs.vtype == VILL,
+                VOp::VmvVx => self.csrs.vtype == VILL,
             },
         }
     }
 
-    // The instruction at pc, where there is one that is built.
-    #[tactic(auto, unfolding(rvv_meaning::specs::States::instruction))]
-    fn instruction(&self) -> Option<Meaning>
-        ensures is { result ≡ instruction self.now.core }
-        ensures range { IfSome result FieldsFit }
+    // A trap at pc.
+    fn trap(&self, cause: u8, value: u32) -> Mode
+        ensures { result ≡ trap cause value self.now.core }
     {
-        let word = self.fetch()?;
-        let meaning = decode(word)?;
-        if self.is_built(&meaning) {
-            Some(meaning)
-        } else {
-            None
+        Mode::Trapped(Trap {
+            cause,
+            pc: self.pc,
+            value,
+        })
+    }
+
+    // What comes of a word at pc.
+    fn next_for(&self, word: u32) -> Next
+        ensures is { result ≡ next_for self.now.core word (means word) }
+        ensures range { NextFits result }
+    {
+        let meaning = match decode(word) {
+            None => return Next::Stop(Mode::Unbuilt),
+            Some(meaning) => meaning,
+        };
+        if !self.is_built(&meaning) {
+            return Next::Stop(Mode::Unbuilt);
+        }
+        if self.is_illegal(&meaning) {
+            return Next::Stop(self.trap(ILLEGAL_WORD, word));
+        }
+        Next::Perform(meaning)
+    }
+
+    // What comes at pc.
+    #[tactic(auto, unfolding(rvv_meaning::specs::States::next))]
+    fn next(&self) -> Next
+        ensures is { result ≡ next self.now.core }
+        ensures range { NextFits result }
+    {
+        match self.mem.fetch(self.pc) {
+            Err(_) => Next::Stop(self.trap(FETCH_FAULT, self.pc)),
+            Ok(word) => self.next_for(word),
         }
     }
 
@@ -303,6 +291,7 @@ impl Machine {
         match self.mode {
             Mode::Running => Step::Ran,
             Mode::Exited(code) => Step::Exited(code),
+            Mode::Trapped(trap) => Step::Trapped(trap),
             Mode::Unbuilt => Step::Unbuilt,
         }
     }
@@ -314,11 +303,11 @@ impl Machine {
         self.buf.clear();
     }
 
-    // The machine stops at an instruction that is not built.
-    fn stop(&mut self)
-        ensures { self.new ≡ record self.old { core = record self.old.core { mode = Mode.Unbuilt } } }
+    // The machine stops.
+    fn stop(&mut self, mode: Mode)
+        ensures { self.new ≡ record self.old { core = record self.old.core { mode = mode } } }
     {
-        self.mode = Mode::Unbuilt;
+        self.mode = mode;
     }
 
     // A register gets a number, and the instruction retires.
@@ -397,38 +386,7 @@ impl Machine {
         self.csrs.retired += 1;
     }
 
-    // Puts the bytes of a write; an empty range puts nothing.
-    fn put<O: Sink, E: Sink>(
-        &self,
-        out: &mut O,
-        err: &mut E,
-        merged: bool,
-    ) -> Result<(), DeviceFault>
-        requires write { is_write self.now.core ≡ true }
-        ensures gained_out { OnOk result (Appends (O.held out.old) (O.held out.new) (bytes_out merged (written_range self.now.core))) }
-        ensures gained_err { OnOk result (Appends (E.held err.old) (E.held err.new) (bytes_err merged (written_range self.now.core))) }
-        ensures front_out { OnErr result (PutsFront (O.held out.old) (O.held out.new) (bytes_out merged (written_range self.now.core))) }
-        ensures front_err { OnErr result (PutsFront (E.held err.old) (E.held err.new) (bytes_err merged (written_range self.now.core))) }
-        ensures cause { IsErrOf result DeviceFault.WriteFault → MatchBool merged (Rose (E.faults err.old) (E.faults err.new)) (Rose (O.faults out.old) (O.faults out.new)) }
-        ensures no_read { IsErrOf result DeviceFault.ReadFault → ⊥ }
-        ensures at { OnErr result (IsWriting self.now.core) }
-        ensures later_out { O.faults out.old ≤ O.faults out.new }
-        ensures later_err { E.faults err.old ≤ E.faults err.new }
-    {
-        let count = self.regs[CALL_COUNT] as usize;
-        if count == 0 {
-            return Ok(());
-        }
-        let from = (self.regs[CALL_ADDRESS] - PAGE_START) as usize;
-        let piece = &self.page[from..from + count];
-        if merged {
-            put_to(err, piece)
-        } else {
-            put_to(out, piece)
-        }
-    }
-
-    // A call of the guest: the exit, or a write of bytes of the page.
+    // A call of the guest: the exit or a write.
     fn call<O: Sink, E: Sink>(
         &mut self,
         i: &Instr,
@@ -436,7 +394,7 @@ impl Machine {
         err: &mut E,
         merged: bool,
     ) -> Result<(), DeviceFault>
-        requires there { instruction self.old.core ≡ Some (Scalar i.now) }
+        requires there { next self.old.core ≡ Perform (Scalar i.now) }
         requires call { i.now.op ≡ Op.Ecall }
         requires count { self.old.core.csrs.retired < 2 ^ 63 }
         ensures core { OnOk result (self.new ≡ record self.old { core = called self.old.core }) }
@@ -445,7 +403,7 @@ impl Machine {
         ensures kept { OnErr result (self.new ≡ self.old) }
         ensures front_out { OnErr result (PutsFront (O.held out.old) (O.held out.new) (gains_out merged self.old.core)) }
         ensures front_err { OnErr result (PutsFront (E.held err.old) (E.held err.new) (gains_err merged self.old.core)) }
-        ensures cause { IsErrOf result DeviceFault.WriteFault → MatchBool merged (Rose (E.faults err.old) (E.faults err.new)) (Rose (O.faults out.old) (O.faults out.new)) }
+        ensures cause { OnErr result (IsFaultOf merged (reg self.old.core 10) (O.faults out.old) (O.faults out.new) (E.faults err.old) (E.faults err.new)) }
         ensures no_read { IsErrOf result DeviceFault.ReadFault → ⊥ }
         ensures at { OnErr result (IsWriting self.old.core) }
         ensures later_out { O.faults out.old ≤ O.faults out.new }
@@ -457,9 +415,11 @@ impl Machine {
             self.mode = Mode::Exited(code);
             return Ok(());
         }
-        self.put(out, err, merged)?;
+        let descriptor = self.regs[CALL_FIRST];
+        let address = self.regs[CALL_ADDRESS];
         let count = self.regs[CALL_COUNT];
-        self.set_reg(CALL_FIRST as u8, count);
+        let answer = write(&self.mem, descriptor, address, count, out, err, merged)?;
+        self.set_reg(CALL_FIRST as u8, answer);
         Ok(())
     }
 
@@ -477,25 +437,25 @@ impl Machine {
         ensures length { self.new.core.csrs.vlen ≡ self.old.core.csrs.vlen }
         ensures kept { OnErr result (self.new ≡ self.old) }
         ensures fails { OnErr result (Fails merged self.old (O.held out.old) (O.held out.new) (E.held err.old) (E.held err.new)) }
-        ensures cause { IsErrOf result DeviceFault.WriteFault → MatchBool merged (Rose (E.faults err.old) (E.faults err.new)) (Rose (O.faults out.old) (O.faults out.new)) }
+        ensures cause { OnErr result (IsFaultOf merged (reg self.old.core 10) (O.faults out.old) (O.faults out.new) (E.faults err.old) (E.faults err.new)) }
         ensures no_read { IsErrOf result DeviceFault.ReadFault → ⊥ }
         ensures at { OnErr result (IsWriting self.old.core) }
         ensures later_out { O.faults out.old ≤ O.faults out.new }
         ensures later_err { E.faults err.old ≤ E.faults err.new }
     {
-        match self.instruction() {
-            None => {
-                self.stop();
+        match self.next() {
+            Next::Stop(mode) => {
+                self.stop(mode);
                 Ok(())
             }
-            Some(Meaning::Scalar(i)) => match i.op {
+            Next::Perform(Meaning::Scalar(i)) => match i.op {
                 Op::Ecall => self.call(&i, out, err, merged),
                 Op::Addi | Op::Lui => {
                     self.exec(&i);
                     Ok(())
                 }
             },
-            Some(Meaning::Vector(i)) => {
+            Next::Perform(Meaning::Vector(i)) => {
                 if engine(&i) {
                     self.run_program(&i);
                 } else {
@@ -533,7 +493,7 @@ impl Machine {
         // What stands after a device fault, and its cause.
         ensures kept { OnErr result (self.new ≡ record self.old { last = []; live = false }) }
         ensures fronts { OnErr result (FaultsIn moment_after merged self.old (S.left input.old) (O.held out.old) (O.held out.new) (E.held err.old) (E.held err.new)) }
-        ensures cause { IsErrOf result DeviceFault.WriteFault → MatchBool merged (Rose (E.faults err.old) (E.faults err.new)) (Rose (O.faults out.old) (O.faults out.new)) }
+        ensures cause { OnErr result (IsFaultOf merged (reg self.old.core 10) (O.faults out.old) (O.faults out.new) (E.faults err.old) (E.faults err.new)) }
         ensures no_read { IsErrOf result DeviceFault.ReadFault → ⊥ }
         ensures at { OnErr result (IsWriting self.old.core) }
         ensures later_input { S.faults input.old ≤ S.faults input.new }
@@ -569,7 +529,8 @@ impl Machine {
         ensures length { self.new.core.csrs.vlen ≡ self.old.core.csrs.vlen }
         ensures answer { IfOk result (λ answer. answer ≡ answer_of self.new.core.mode) }
         ensures fronts { OnErr result (FaultsIn (λ m. moments m n) merged self.old (S.left input.old) (O.held out.old) (O.held out.new) (E.held err.old) (E.held err.new)) }
-        ensures cause { IsErrOf result DeviceFault.WriteFault → MatchBool merged (Rose (E.faults err.old) (E.faults err.new)) (Rose (O.faults out.old) (O.faults out.new)) }
+        ensures cause { OnErr result (IsFaultOf merged (reg self.new.core 10) (O.faults out.old) (O.faults out.new) (E.faults err.old) (E.faults err.new)) }
+        ensures at { OnErr result (IsWriting self.new.core) }
         ensures no_read { IsErrOf result DeviceFault.ReadFault → ⊥ }
         ensures later_input { S.faults input.old ≤ S.faults input.new }
         ensures later_out { O.faults out.old ≤ O.faults out.new }
@@ -579,8 +540,7 @@ impl Machine {
             let answer = self.step(input, out, err, merged)?;
             match answer {
                 Step::Ran => {}
-                Step::Exited(_) => return Ok(answer),
-                Step::Unbuilt => return Ok(answer),
+                Step::Exited(_) | Step::Trapped(_) | Step::Unbuilt => return Ok(answer),
             }
         }
         Ok(Step::Ran)

@@ -3,12 +3,11 @@
 #![tactic(auto)]
 
 mod answers;
+mod calls;
 mod core_state;
-mod image;
 #[cfg(test)]
 mod tests;
 mod words;
 
 pub use answers::{DeviceFault, Step};
 pub use core_state::Machine;
-pub use image::Loaded;

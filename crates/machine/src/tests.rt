@@ -1,21 +1,34 @@
 // Steps of a machine over memory. The words and what they leave are worked out by hand.
-ghost use Rattle.std.specs.Prelude.{◌≡◌, ◌≤◌, IfOk, length};
+ghost use Rattle.std.specs.Prelude.{◌≡◌, ◌≤◌, IfOk};
 
-use crate::{Loaded, Machine, Step};
+use crate::{Machine, Step};
 use cape_io::{MemSink, MemSource};
+use elf_load::load;
 use micro_ir::MicroOp;
 use rvv_meaning::Policy;
 use std::alloc::Global;
 use std::test::Fail;
+
+// The header of an image of six words, which is one segment from 0x10000 on, to read and to execute.
+const HEADER: [u8; 84] = [
+    0x7f, 0x45, 0x4c, 0x46, 1, 1, 1, 0, 0, 0, 0, 0, 0, 0, 0, 0, 2, 0, 0xf3, 0, 1, 0, 0, 0, 0x54, 0,
+    1, 0, 0x34, 0, 0, 0, 0, 0, 0, 0, 0, 0, 0, 0, 0x34, 0, 0x20, 0, 1, 0, 0, 0, 0, 0, 0, 0, 1, 0, 0,
+    0, 0, 0, 0, 0, 0, 0, 1, 0, 0, 0, 1, 0, 0x6c, 0, 0, 0, 0x6c, 0, 0, 0, 5, 0, 0, 0, 0, 0x10, 0, 0,
+];
 
 // addi x10, x0, 7; vsetivli x0, 4, e32, m1, ta, ma; vmv.v.x v1, x10; vxor.vv v2, v1, v1; addi x17, x0, 93; ecall
 const SPLAT: [u32; 6] = [
     0x00700513, 0xcd027057, 0x5e0540d7, 0x2e108157, 0x05d00893, 0x00000073,
 ];
 
-// It writes two bytes of its own words to the output, and meets zeros.
+// It writes two bytes of its own header to the output, and meets zeros.
 const WRITE: [u32; 6] = [
     0x00100513, 0x000105b7, 0x00200613, 0x04000893, 0x00000073, 0x00000000,
+];
+
+// It writes the last byte of its page and the first of the next to the output.
+const WRITE_OVER_AN_END: [u32; 6] = [
+    0x00100513, 0x000115b7, 0xfff58593, 0x00200613, 0x04000893, 0x00000073,
 ];
 
 // A machine after some steps from the first of its words, its answer, and what its sinks hold.
@@ -38,14 +51,11 @@ fn run_of(
     requires { steps ≤ 10 }
     ensures { IfOk result (λ ran. ran.machine.core.csrs.vlen ≡ 1024) }
 {
-    let mut bytes = Vec::new(alloc);
+    let mut image = Vec::from_slice(alloc, HEADER.as_slice())?;
     for word in words {
-        bytes.extend_from_slice(word.to_le_bytes().as_slice())?;
+        image.extend_from_slice(word.to_le_bytes().as_slice())?;
     }
-    let loaded = Loaded {
-        entry_pc: 0x10000,
-        bytes,
-    };
+    let loaded = load(alloc, &image).ok().ok_or("the image loads")?;
     let mut machine = Machine::new(alloc, loaded, 1024, Policy::Keep)?;
     let mut input = MemSource::new(alloc, &[], 1, &[])?;
     let mut out = MemSink::new(alloc, 10, fails)?;
@@ -165,7 +175,7 @@ fn a_put_that_fails_leaves_the_machine_dead(rt: HostRuntime) -> Result<(), Fail>
         assert!(rt; ran.answer.is_none());
         assert!(rt; !ran.machine.live());
         assert_eq!(rt; ran.machine.retired(), 4);
-        assert_eq!(rt; ran.machine.pc(), 0x10010);
+        assert_eq!(rt; ran.machine.pc(), 0x10064);
         assert_eq!(rt; (ran.out.len(), ran.err.len()), (out_len, err_len));
     }
     Ok(())
@@ -175,7 +185,18 @@ fn a_put_that_fails_leaves_the_machine_dead(rt: HostRuntime) -> Result<(), Fail>
 fn a_write_goes_out_before_what_is_not_built(rt: HostRuntime) -> Result<(), Fail> {
     let ran = run_of(rt.alloc(), &WRITE, 9, false, &[])?;
     assert_eq!(rt; ran.answer, Some(Step::Unbuilt));
-    assert_eq!(rt; ran.out.as_slice(), [0x13, 0x05].as_slice());
+    assert_eq!(rt; ran.out.as_slice(), [0x7f, 0x45].as_slice());
     assert_eq!(rt; ran.machine.retired(), 5);
+    Ok(())
+}
+
+#[test]
+fn a_write_puts_a_piece_for_each_page(rt: HostRuntime) -> Result<(), Fail> {
+    let ran = run_of(rt.alloc(), &WRITE_OVER_AN_END, 6, false, &[(1, 0)])?;
+    assert!(rt; ran.answer.is_none());
+    assert_eq!(rt; ran.out.as_slice(), [0].as_slice());
+    let whole = run_of(rt.alloc(), &WRITE_OVER_AN_END, 6, false, &[])?;
+    assert_eq!(rt; whole.answer, Some(Step::Ran));
+    assert_eq!(rt; whole.out.as_slice(), [0, 0].as_slice());
     Ok(())
 }

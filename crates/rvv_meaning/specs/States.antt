@@ -1,7 +1,7 @@
 -- The states of a machine, one step and a run.
-use Rattle.std.specs.Prelude.{◌≡◌, ◌==◌, ◌&&◌, ◌||◌, not, ℕ, zero, suc, ◌+◌, ◌-◌, ◌*◌, ◌/◌, ◌%◌, ◌^◌, ◌≤◌, Bool, true, false, List, [], ◌∷◌, ◌++◌, length, take, drop, min, Option, Some, None, nat_lt, nat_le, slice_index, slice_set, if◌then◌else◌}
-use Rattle.std.specs.Option.{option_and_then}
+use Rattle.std.specs.Prelude.{◌==◌, ◌||◌, not, ℕ, zero, suc, ◌+◌, ◌/◌, ◌%◌, ◌^◌, Bool, true, false, List, [], ◌++◌, min, Option, Some, None, is_some, slice_index, slice_set, if◌then◌else◌}
 use Rattle.bit_laws.specs.Numbers.{low}
+use Rattle.guest_mem.specs.Pages.{Memory, first_bad, loaded}
 use Rattle.rvv_meaning.specs.declared.Op.{Op}
 use Rattle.rvv_meaning.specs.declared.Op.TheVariants.{Addi, Lui, Ecall}
 use Rattle.rvv_meaning.specs.declared.VOp.{VOp}
@@ -11,18 +11,21 @@ use Rattle.rvv_meaning.specs.declared.VInstr.{VInstr}
 use Rattle.rvv_meaning.specs.declared.Meaning.{Meaning}
 use Rattle.rvv_meaning.specs.declared.Meaning.TheVariants.{Scalar, Vector}
 use Rattle.rvv_meaning.specs.declared.Mode.{Mode}
-use Rattle.rvv_meaning.specs.declared.Mode.TheVariants.{Running, Exited, Unbuilt}
+use Rattle.rvv_meaning.specs.declared.Mode.TheVariants.{Running, Exited, Trapped, Unbuilt}
+use Rattle.rvv_meaning.specs.declared.Next.{Next}
+use Rattle.rvv_meaning.specs.declared.Next.TheVariants.{Stop, Perform}
 use Rattle.rvv_meaning.specs.declared.Csrs.{Csrs}
 use Rattle.rvv_meaning.specs.Words.{means}
 use Rattle.rvv_meaning.specs.Vectors.{vectors_after}
+use Rattle.rvv_meaning.specs.Calls.{write_answer, write_bytes}
 
--- What a machine holds: the registers x0 to x31, the place of the next word, the control registers, the bytes of the
--- one page of memory, which begins at 0x10000, the bytes of each vector register, and the mode.
+-- What a machine holds: the registers x0 to x31, the place of the next word, the control registers, the guest's memory,
+-- the bytes of each vector register, and the mode.
 pub record Core : Type 0 where
   pub regs : List ℕ
   pub pc : ℕ
   pub csrs : Csrs
-  pub page : List ℕ
+  pub mem : Memory
   pub vectors : List (List ℕ)
   pub mode : Mode
 
@@ -35,13 +38,6 @@ pub record State : Type 0 where
   pub errors : List ℕ
   pub joint : List ℕ
 
--- where the page begins, and how many bytes it has
-abbrev pub page_start : ℕ
-page_start = 0x10000
-
-abbrev pub page_size : ℕ
-page_size = 4096
-
 -- x[r]
 abbrev pub reg : Core → ℕ → ℕ
 reg c r = slice_index c.regs r
@@ -49,14 +45,6 @@ reg c r = slice_index c.regs r
 -- the registers after a write; x0 stays 0
 abbrev pub written : List ℕ → ℕ → ℕ → List ℕ
 written regs r value = if r == 0 then regs else slice_set regs r value
-
--- the number of four bytes, the lowest first
-abbrev pub word_of : List ℕ → ℕ → ℕ
-word_of bytes at = slice_index bytes at + 2 ^ 8 * slice_index bytes (at + 1) + 2 ^ 16 * slice_index bytes (at + 2) + 2 ^ 24 * slice_index bytes (at + 3)
-
--- the word at pc, where it lies in the page
-abbrev pub fetched : Core → Option ℕ
-fetched c = if nat_le page_start c.pc && nat_le (c.pc + 4) (page_start + page_size) then Some (word_of c.page (c.pc - page_start)) else None
 
 -- the next instruction's place, and one more retired
 abbrev pub advanced : Core → Core
@@ -66,20 +54,12 @@ advanced c = record c { pc = low 32 (c.pc + 4); csrs = record c.csrs { retired =
 abbrev pub set_reg : ℕ → ℕ → Core → Core
 set_reg r value c = advanced (record c { regs = written c.regs r value })
 
--- the range lies in the page, or is empty
-abbrev pub in_page : ℕ → ℕ → Bool
-in_page at count = (count == 0) || (nat_le page_start at && nat_le (at + count) (page_start + page_size))
-
--- the bytes of a range of the page
-abbrev pub range_of : List ℕ → ℕ → ℕ → List ℕ
-range_of page at count = take count (drop (at - page_start) page)
-
--- a call is the exit, or a write to the output of bytes of the page
+-- the calls that are built: the exit, and a write
 abbrev pub is_exit : Core → Bool
 is_exit c = reg c 17 == 93
 
 abbrev pub is_write : Core → Bool
-is_write c = (reg c 17 == 64) && (reg c 10 == 1) && in_page (reg c 11) (reg c 12)
+is_write c = reg c 17 == 64
 
 -- no setting of the vector unit is in force
 abbrev pub is_vill : Core → Bool
@@ -91,26 +71,55 @@ is_built_scalar Addi c = true
 is_built_scalar Lui c = true
 is_built_scalar Ecall c = is_exit c || is_write c
 
-abbrev pub is_built_vector : VOp → Core → Bool
-is_built_vector Vsetivli c = true
-is_built_vector VxorVv c = not (is_vill c)
-is_built_vector VmvVx c = not (is_vill c)
-
 abbrev pub is_built : Meaning → Core → Bool
 is_built (Scalar i) c = is_built_scalar i.op c
-is_built (Vector i) c = is_built_vector i.op c
+is_built (Vector i) c = true
 
-abbrev pub if_built : Core → Meaning → Option Meaning
-if_built c m = if is_built m c then Some m else None
+-- an instruction on elements is illegal where no setting is in force
+abbrev pub is_illegal_vector : VOp → Core → Bool
+is_illegal_vector Vsetivli c = false
+is_illegal_vector VxorVv c = is_vill c
+is_illegal_vector VmvVx c = is_vill c
 
--- The instruction at pc, where there is one that can be carried out. Behind an image the page holds zeros, which mean
--- nothing.
-unfoldable pub instruction : Core → Option Meaning
-instruction c = option_and_then (if_built c) (option_and_then means (fetched c))
+abbrev pub is_illegal : Meaning → Core → Bool
+is_illegal (Scalar i) c = false
+is_illegal (Vector i) c = is_illegal_vector i.op c
 
--- what a call leaves: the exit ends the run with the low byte of x10, and a write answers its count
+-- a trap at pc
+abbrev pub trap : ℕ → ℕ → Core → Mode
+trap cause value c = Trapped record { cause = cause; pc = c.pc; value = value }
+
+-- the causes of traps: a fetch without permission, and an illegal word
+abbrev pub fetch_fault : ℕ
+fetch_fault = 1
+
+abbrev pub illegal_word : ℕ
+illegal_word = 2
+
+-- what comes of a word that means this
+abbrev pub next_for : Core → ℕ → Option Meaning → Next
+next_for c word None = Stop Unbuilt
+next_for c word (Some m) =
+    if not (is_built m c) then Stop Unbuilt else if is_illegal m c then Stop (trap illegal_word word c) else Perform m
+
+-- the permission to execute, and the bytes of a word
+abbrev pub execute : ℕ
+execute = 1
+
+abbrev pub word_size : ℕ
+word_size = 4
+
+-- What comes at pc: the word there must be executable in each of its bytes, and mean an instruction that can be carried
+-- out.
+unfoldable pub next : Core → Next
+next c =
+    if is_some (first_bad c.mem.pages execute c.pc word_size)
+    then Stop (trap fetch_fault c.pc c)
+    else next_for c (loaded c.mem.pages c.pc word_size) (means (loaded c.mem.pages c.pc word_size))
+
+-- what a call leaves: the exit ends the run with the low byte of x10, and a write answers in x10
 abbrev pub called : Core → Core
-called c = if is_exit c then record (advanced c) { mode = Exited (reg c 10 % 2 ^ 8) } else set_reg 10 (reg c 12) c
+called c = if is_exit c then record (advanced c) { mode = Exited (reg c 10 % 2 ^ 8) } else set_reg 10 (write_answer c.mem.pages (reg c 10) (reg c 11) (reg c 12)) c
 
 -- what a scalar instruction leaves
 abbrev pub executed_scalar : Op → Instr → Core → Core
@@ -148,34 +157,34 @@ executed_vector Vsetivli i c = configured i c
 executed_vector VxorVv i c = elementwise i c
 executed_vector VmvVx i c = elementwise i c
 
--- what an instruction leaves in the machine; without one that can be carried out the machine stops there
-abbrev pub carried_out : Option Meaning → Core → Core
-carried_out None c = record c { mode = Unbuilt }
-carried_out (Some (Scalar i)) c = executed_scalar i.op i c
-carried_out (Some (Vector i)) c = executed_vector i.op i c
+-- what a step leaves in the machine: a stop changes the mode alone
+abbrev pub carried_out : Next → Core → Core
+carried_out (Stop mode) c = record c { mode = mode }
+carried_out (Perform (Scalar i)) c = executed_scalar i.op i c
+carried_out (Perform (Vector i)) c = executed_vector i.op i c
 
 -- what the machine holds after a step
 unfoldable pub core_after : Core → Core
-core_after c = carried_out (instruction c) c
+core_after c = carried_out (next c) c
 
--- the bytes that a write writes
-abbrev pub written_range : Core → List ℕ
-written_range c = range_of c.page (reg c 11) (reg c 12)
+-- the bytes that a call puts: a call that is not the exit is a write
+abbrev pub puts_call : Core → List ℕ
+puts_call c = if is_exit c then [] else write_bytes c.mem.pages (reg c 10) (reg c 11) (reg c 12)
 
--- the bytes that a scalar instruction writes: a call that is not the exit is a write
+-- the bytes that an instruction puts
 abbrev pub puts_scalar : Op → Core → List ℕ
 puts_scalar Addi c = []
 puts_scalar Lui c = []
-puts_scalar Ecall c = if is_exit c then [] else written_range c
+puts_scalar Ecall c = puts_call c
 
-abbrev pub puts_by : Option Meaning → Core → List ℕ
-puts_by None c = []
-puts_by (Some (Scalar i)) c = puts_scalar i.op c
-puts_by (Some (Vector i)) c = []
+abbrev pub puts_by : Next → Core → List ℕ
+puts_by (Stop mode) c = []
+puts_by (Perform (Scalar i)) c = puts_scalar i.op c
+puts_by (Perform (Vector i)) c = []
 
--- the bytes that a step writes, and those of them that go to a descriptor: 1 is the output, 2 the error output
+-- the bytes that a step puts, and those of them that go to a descriptor
 unfoldable pub puts : Core → List ℕ
-puts c = puts_by (instruction c) c
+puts c = puts_by (next c) c
 
 abbrev pub put_on : ℕ → Core → List ℕ
 put_on descriptor c = if reg c 10 == descriptor then puts c else []
@@ -193,6 +202,7 @@ step s = record {
 abbrev pub is_running : Mode → Bool
 is_running Running = true
 is_running (Exited c) = false
+is_running (Trapped t) = false
 is_running Unbuilt = false
 
 -- up to n steps, as long as the machine runs

@@ -1,5 +1,5 @@
 -- What the vector instructions do to the vector registers, as arithmetic on whole elements of lists of bytes.
-use Rattle.std.specs.Prelude.{◌≡◌, ℕ, ◌+◌, ◌*◌, ◌/◌, ◌%◌, ◌^◌, Bool, true, false, ◌&&◌, List, [], nat_lt, nat_le, slice_index, slice_index_or, slice_set, bit_xor, if◌then◌else◌}
+use Rattle.std.specs.Prelude.{ℕ, ◌+◌, ◌*◌, ◌/◌, ◌%◌, Bool, true, false, ◌&&◌, List, [], nat_lt, nat_le, slice_index, slice_index_or, slice_set, bit_xor, if◌then◌else◌}
 use Rattle.bit_laws.specs.Numbers.{little, byte_of, low}
 use Rattle.bit_laws.specs.Lists.{tabulate}
 use Rattle.rvv_meaning.specs.declared.VOp.{VOp}

@@ -1,5 +1,5 @@
 -- The words of the instruction set: tables of rows, and the meaning of a word as a look-up in them.
-use Rattle.std.specs.Prelude.{◌≡◌, ◌==◌, ℕ, ◌+◌, ◌-◌, ◌*◌, ◌/◌, ◌%◌, ◌^◌, Bool, List, [], ◌∷◌, Option, Some, None, bit_and, nat_lt, find, if◌then◌else◌}
+use Rattle.std.specs.Prelude.{◌==◌, ℕ, ◌+◌, ◌-◌, ◌*◌, ◌/◌, ◌%◌, ◌^◌, Bool, List, [], ◌∷◌, Option, Some, None, bit_and, nat_lt, find, if◌then◌else◌}
 use Rattle.std.specs.Option.{option_map}
 use Rattle.rvv_meaning.specs.declared.Op.{Op}
 use Rattle.rvv_meaning.specs.declared.Op.TheVariants.{Addi, Lui, Ecall}

@@ -2,6 +2,8 @@
 //! definitions stand in specs/; the types here are those that both the definitions and the code name.
 #![tactic(auto)]
 
+use guest_mem::Trap;
+
 /// The scalar instructions by their names (RISC-V unprivileged specification, RV32I).
 #[derive(Clone, Copy, Debug, PartialEq, Eq)]
 pub enum Op {
@@ -50,7 +52,15 @@ pub enum Meaning {
 pub enum Mode {
     Running,
     Exited(u8),
+    Trapped(Trap),
     Unbuilt,
+}
+
+/// What comes at pc: the machine stops there in a mode, or an instruction is to be carried out.
+#[derive(Clone, Copy, Debug, PartialEq, Eq)]
+pub enum Next {
+    Stop(Mode),
+    Perform(Meaning),
 }
 
 /// What a vector instruction leaves in an agnostic element: its old value, or all ones.
@@ -71,4 +81,34 @@ pub struct Csrs {
     pub vtype: u32,
     pub vlen: u32,
     pub retired: u64,
+}
+
+/// Where a program goes on after a scalar instruction: at the next word, at a target, with a call of its environment, or
+/// not at all, at a trap.
+#[derive(Clone, Copy, PartialEq, Eq, Debug)]
+pub enum Flow {
+    Next,
+    Jump(u32),
+    Call,
+    Trap(Trap),
+}
+
+/// The calls that a guest makes of its environment. Each has the number of the call of Linux for RISC-V in brackets; the
+/// number stands in x17.
+#[derive(Clone, Copy, Debug, PartialEq, Eq)]
+pub enum Call {
+    /// read(descriptor, address, count) takes bytes of the input (63).
+    Read,
+    /// write(descriptor, address, count) puts bytes on an output (64).
+    Write,
+    /// exit(code) and exit_group(code) end the run (93 and 94).
+    Exit,
+    /// brk(address) asks for a break (214).
+    Break,
+    /// close(descriptor) closes nothing (57).
+    Close,
+    /// llseek(descriptor, ..) finds no place to seek (62).
+    Seek,
+    /// A call of any other number.
+    Unknown,
 }

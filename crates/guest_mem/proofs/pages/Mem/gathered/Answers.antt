@@ -1,24 +1,24 @@
-use Rattle.std.proofs.Common.{◌≡◌, ◌+◌, ◌-◌, ◌^◌, ◌%◌, refl, sym, ◌∙◌, arith}
-use Rattle.guest_mem.proofs.Loads.{gathered-more, loaded-none}
+use Rattle.std.proofs.Common.{◌≡◌, ◌∙◌, sym, refl, arith}
+use Rattle.std.proofs.lemmas.List.{length-set, take_more_set}
+use Rattle.guest_mem.proofs.Loads.{from_le_bytes-range_bytes}
+use Rattle.guest_mem.proofs.Ranges.{range_bytes-none, range_bytes-more}
 use Rattle.guest_mem.proofs.pages.Mem.gathered.Goals as goal
 
-pub loop-left-init : goal.loop-left-init
-loop-left-init c =
-    let z : c.args.len - c.args.len ≡ 0 = omega arith in
+pub loop-k-init : goal.loop-k-init
+loop-k-init c = record { whole = refl; front = sym (range_bytes-none c.args.self.now.pages c.args.address) }
+
+pub loop-k-preserved : goal.loop-k-preserved
+loop-k-preserved c =
+    let k = c.loop-k.k in
+    let word = c.loop-k.word in
+    let more = range_bytes-more c.args.self.now.pages c.args.address k c.ranges.address.fits in
     record {
-      gathered = rw z (sym (loaded-none c.args.self.now.pages ((c.args.address + c.args.len) % 2 ^ 32)));
-      fits = rw z (omega arith);
-      inside = omega arith;
+      whole = length-set word k c.unwrap_or.result ∙ c.loop-k.invariant.whole;
+      front = take_more_set word k c.unwrap_or.result (omega arith) ∙ rw (more, c.loop-k.invariant.front, c.unwrap_or.ensures, c.peek.ensures) refl;
     }
 
-pub loop-left-preserved : goal.loop-left-preserved
-loop-left-preserved c =
-    let w = gathered-more c.args.self.now.pages c.args.address c.loop-left.value c.from.result c.loop-left.left c.args.len
-    c.loop-left.invariant.inside c.requires c.loop-left-test.true c.loop-left.invariant.gathered c.loop-left.invariant.fits
-    (c.from.ensures ∙ c.unwrap_or-byte.ensures ∙ rw c.peek.ensures refl)
-    (omega (arith, c.from.ensures)) in
-    record {
-      gathered = w.0;
-      fits = w.1;
-      inside = omega arith;
-    }
+pub returns : goal.returns
+returns c =
+    let done : c.loop-k.k ≡ c.args.len = omega arith in
+    let bytes = rw done at c.loop-k.invariant.front in
+    c.little_endian.ensures ∙ rw bytes (from_le_bytes-range_bytes c.args.self.now.pages c.args.address c.args.len c.requires)

@@ -1,0 +1,42 @@
+// Pieces of text.
+ghost use Rattle.std.specs.Prelude.{◌≡◌, ◌+◌, ◌<◌, ◌≤◌, ◌++◌};
+ghost use Rattle.arrayvec.specs.ArrayString.{array_string_len};
+ghost use Rattle.rvv_meaning.specs.Texts.{hex_digit, hex_word};
+
+use arrayvec::ArrayString;
+
+/// A line of text, of at most 240 bytes.
+pub type Line = ArrayString<240>;
+
+// The hexadecimal digits of a word.
+const DIGITS: u32 = 8;
+
+// The bits of a hexadecimal digit, and how many values it has.
+const DIGIT_BITS: u32 = 4;
+
+const RADIX: u32 = 16;
+
+// A hexadecimal digit, in lower case.
+fn hex_glyph(digit: u32) -> char
+    requires { digit < 16 }
+    ensures code { result ≡ hex_digit digit }
+    ensures ascii { result < 128 }
+{
+    if digit < 10 {
+        (b'0' + digit as u8) as char
+    } else {
+        (b'a' + (digit as u8 - 10)) as char
+    }
+}
+
+/// Appends a number in eight hexadecimal digits, in lower case.
+#[tactic(auto, unfolding(rvv_meaning::specs::Texts::hex_word))]
+pub(crate) fn push_hex(line: &mut Line, value: u32)
+    requires { array_string_len line.old + 8 ≤ 240 }
+    ensures text { line.new.bytes ≡ line.old.bytes ++ hex_word value }
+    ensures room { array_string_len line.new ≡ array_string_len line.old + 8 }
+{
+    for place in (0..DIGITS).rev() {
+        line.push(hex_glyph((value >> (DIGIT_BITS * place)) % RADIX));
+    }
+}

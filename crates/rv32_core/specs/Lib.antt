@@ -1,0 +1,3 @@
+-- What the parameters of this crate's functions stand for.
+pub mod Loaded
+pub mod Update

@@ -1,0 +1,17 @@
+//! The execution of scalar instructions: RV32I, M, Zicsr and Zifencei (RISC-V unprivileged specification, the chapters of
+//! these names).
+#![tactic(auto)]
+
+mod accesses;
+mod arithmetic;
+mod control_registers;
+mod execution;
+mod regs;
+#[cfg(test)]
+mod tests;
+mod transfers;
+mod traps;
+
+pub use execution::exec;
+pub use regs::Regs;
+pub use rvv_meaning::{Csrs, Flow};
