@@ -17,7 +17,7 @@ use Rattle.machine.proofs.Showing.{appends_more}
 use Rattle.machine.proofs.Runs.{state_run}
 use Rattle.cape.specs.declared.ending.Status.{Status}
 use Rattle.cape.specs.Lines.{line_of}
-use Rattle.cape.specs.Endings.{EndsBy, ending_of, FaultsBefore, status_of, kept_for, held_for, Kept, IsAt, Keeps, status_for_answer, budget}
+use Rattle.cape.specs.Endings.{EndsBy, ending_of, FaultsBefore, status_of, kept_for, held_for, Kept, IsAt, Keeps, status_for_answer, shown}
 
 line_is_report : (mode : Mode) (n : ℕ) → line_of (answer_of mode) n ≡ report_at mode n
 line_is_report Running n = refl
@@ -38,39 +38,39 @@ keeps_held (Trapped t) k machine is = is
 keeps_held Unbuilt k machine is = refl
 
 -- how a run ends, stated on the state of the last moment
-abbrev ending_at : Moment → Rattle.cape.specs.Endings.Ending
-ending_at m = ending_of m.state m.slices
+abbrev ending_at : Bool → Moment → Rattle.cape.specs.Endings.Ending
+ending_at asked m = ending_of asked m.state m.slices
 
-ending_run : (m : Moment) → ending_of (run m.state budget) (moments m budget).slices ≡ ending_at (moments m budget)
-ending_run m = ap (λ (s : State). ending_of s (moments m budget).slices) (sym (state_run budget m))
+ending_run : (asked : Bool) (steps : ℕ) (m : Moment) → ending_of asked (run m.state steps) (moments m steps).slices ≡ ending_at asked (moments m steps)
+ending_run asked steps m = ap (λ (s : State). ending_of asked s (moments m steps).slices) (sym (state_run steps m))
 
-module _ (machine machine' : Held) (left left' out out' err err' err'' : Option (List ℕ)) (answer : Step) (line : List ℕ)
-    (goes : GoesBy (λ m. moments m budget) false machine machine' left left' out out' err err')
+module _ (asked : Bool) (steps : ℕ) (machine machine' : Held) (left left' out out' err err' err'' : Option (List ℕ)) (answer : Step) (line : List ℕ)
+    (goes : GoesBy (λ m. moments m steps) false machine machine' left left' out out' err err')
     (live : machine'.live ≡ true)
     (answered : answer ≡ answer_of machine'.core.mode)
-    (text : line ≡ line_of answer machine'.core.csrs.retired)
+    (text : line ≡ line_of answer machine'.core.csrs.retired ++ shown asked machine'.core)
   where
     -- the report was put
     pub ends_in : (status : Status) (kept : Option Held) → status ≡ status_for_answer answer → kept ≡ held_for machine'.core.mode machine' → Appends err' err'' line
-        → (m : Moment) (fo fe : Option (List ℕ)) → Shows false m machine left fo out fe err → EndsBy (ending_of (run m.state budget) (moments m budget).slices) status kept left' fo out' fe err''
+        → (m : Moment) (fo fe : Option (List ℕ)) → Shows false m machine left fo out fe err → EndsBy (ending_of asked (run m.state steps) (moments m steps).slices) status kept left' fo out' fe err''
     ends_in status kept is keeps put m fo fe shows =
         let t = goes m fo fe shows in
-        rw (ending_run m) record {
+        rw (ending_run asked steps m) record {
           status_is = rw (is, answered, t.holds) (status_is_mode machine'.core.mode);
           keeps = rw (keeps, t.holds) (keeps_held machine'.core.mode _ machine' record { core = sym t.holds; slices = sym t.slices; live = live });
           told = t.told;
           gained_out = t.gained_out;
-          gained_err = rw (t.holds, ← line_is_report machine'.core.mode machine'.core.csrs.retired, ← answered, ← text) (appends_more fe err' err'' (moments m budget).state.errors line t.gained_err put);
+          gained_err = rw (t.holds, ← line_is_report machine'.core.mode machine'.core.csrs.retired, ← answered, ← text) (appends_more fe err' err'' (moments m steps).state.errors line t.gained_err put);
         }
 
     -- the put of the report failed
-    pub report_fails : PutsFront err' err'' line → (m : Moment) (fo fe : Option (List ℕ)) → Shows false m machine left fo out fe err → FaultsBefore (ending_of (run m.state budget) (moments m budget).slices) fo out' fe err''
+    pub report_fails : PutsFront err' err'' line → (m : Moment) (fo fe : Option (List ℕ)) → Shows false m machine left fo out fe err → FaultsBefore (ending_of asked (run m.state steps) (moments m steps).slices) fo out' fe err''
     report_fails put m fo fe shows =
         let t = goes m fo fe shows in
-        let s = (moments m budget).state in
+        let s = (moments m steps).state in
         let front = take put.0 line in
         let rest = drop put.0 line in
-        rw (ending_run m) record {
+        rw (ending_run asked steps m) record {
           front_out = (s.output, t.gained_out, ([], sym (append-nil s.output)));
           front_err = (
             s.errors ++ front,
@@ -80,12 +80,12 @@ module _ (machine machine' : Held) (left left' out out' err err' err'' : Option 
         }
 
 -- the run failed
-pub run_fails : (machine : Held) (left out out' err err' : Option (List ℕ)) → FaultsIn (λ m. moments m budget) false machine left out out' err err'
-    → (m : Moment) (fo fe : Option (List ℕ)) → Shows false m machine left fo out fe err → FaultsBefore (ending_of (run m.state budget) (moments m budget).slices) fo out' fe err'
-run_fails machine left out out' err err' faults m fo fe shows =
+pub run_fails : (asked : Bool) (steps : ℕ) (machine : Held) (left out out' err err' : Option (List ℕ)) → FaultsIn (λ m. moments m steps) false machine left out out' err err'
+    → (m : Moment) (fo fe : Option (List ℕ)) → Shows false m machine left fo out fe err → FaultsBefore (ending_of asked (run m.state steps) (moments m steps).slices) fo out' fe err'
+run_fails asked steps machine left out out' err err' faults m fo fe shows =
     let f = faults m fo fe shows in
-    let t = (moments m budget).state in
-    rw (ending_run m) record {
+    let t = (moments m steps).state in
+    rw (ending_run asked steps m) record {
       front_out = f.0;
-      front_err = (f.1.0, f.1.1, (f.1.2.0 ++ report t, rw f.1.2.1 (append_assoc f.1.0 f.1.2.0 (report t))));
+      front_err = (f.1.0, f.1.1, (f.1.2.0 ++ (report t ++ shown asked t.core), rw f.1.2.1 (append_assoc f.1.0 f.1.2.0 (report t ++ shown asked t.core))));
     }

@@ -22,10 +22,11 @@ use Rattle.machine.specs.Answers.{answer_of}
 use Rattle.machine.specs.declared.answers.Step.{Step}
 use Rattle.machine.proofs.Carried.{appends_none}
 use Rattle.cape.specs.declared.ending.Status.{Status}
-use Rattle.cape.specs.declared.ending.Status.TheVariants.{WriteFault, NoMemory}
+use Rattle.cape.specs.declared.ending.Status.TheVariants.{Done, Trapped as HasTrapped, StepLimit, Exited as ExitedWith, Refused, Usage, Unbuilt as NotBuilt, ReadFault, WriteFault, NoMemory}
 use Rattle.cape.specs.declared.words.Command.{Command}
 use Rattle.cape.specs.declared.words.Command.TheVariants.{Run, Check}
-use Rattle.cape.specs.Endings.{Ending, IsEnded, IsOfRun, KeepsMachine, ending, ending_from, refused, checked, status_for_answer, held_for, vlen}
+use Rattle.cape.specs.declared.words.RunOptions.{RunOptions}
+use Rattle.cape.specs.Endings.{Ending, IsEnded, IsFault, IsOfRun, KeepsMachine, ending, ending_from, refused, checked, status_for_answer, held_for, vlen}
 use Rattle.cape.specs.Layouts.{layout_text}
 use Rattle.cape.specs.Reading.{IsLoadedFrom}
 
@@ -43,9 +44,9 @@ unfolding start
 start_loaded image input l from = rw (from.entry_pc, from.regions_are, from.heap_is, from.heap_end_is) refl
 
 -- a run of an image ends as a run of what was loaded of it
-pub run_ends : (image input : List ℕ) (l : Loaded) → IsLoadedFrom image l → ending Run image input ≡ ending_from (start_state vlen l.entry_pc (memory_in l) input)
+pub run_ends : (options : RunOptions) (image input : List ℕ) (l : Loaded) → IsLoadedFrom image l → ending (Run options) image input ≡ ending_from options (start_state vlen l.entry_pc (memory_in l) input)
 unfolding ending
-run_ends image input l from = rw from.sound (ap ending_from (start_loaded image input l from))
+run_ends options image input l from = rw from.sound (ap (ending_from options) (start_loaded image input l from))
 
 -- a check of an image shows what was loaded of it
 pub check_ends : (image input : List ℕ) (l : Loaded) → IsLoadedFrom image l → ending Check image input ≡ record (checked image input) { out = layout_text l.entry_pc (map span_of l.regions) }
@@ -81,10 +82,27 @@ pub ended_so : (s t : Status) → IsEnded s → (s ≡ t) ⊎ (s ≡ WriteFault)
 ended_so s t ended (inl is) = is
 ended_so s t ended (inr failed) = absurd (subst IsEnded failed ended)
 
+-- a call that failed where it could not but put a text
+pub failed_so : (s t : Status) → (IsFault t → ⊥) → IsFault s → (s ≡ t) ⊎ (s ≡ WriteFault) → s ≡ WriteFault
+failed_so s t never failed (inl is) = absurd (never (subst IsFault is failed))
+failed_so s t never failed (inr is) = is
+
+no_end : (s : Status) → IsEnded s → IsFault s → ⊥
+no_end Done ended failed = failed
+no_end (ExitedWith c) ended failed = failed
+no_end HasTrapped ended failed = failed
+no_end StepLimit ended failed = failed
+no_end (Refused f) ended failed = failed
+no_end Usage ended failed = failed
+no_end ReadFault ended failed = ended
+no_end WriteFault ended failed = ended
+no_end NoMemory ended failed = failed
+no_end NotBuilt ended failed = failed
+
 -- a run that ended did so by its state
-pub ended_run : (s : Status) → IsEnded s → IsOfRun s ⊎ ((s ≡ WriteFault) ⊎ (s ≡ NoMemory)) → IsOfRun s
+pub ended_run : (s : Status) → IsEnded s → IsOfRun s ⊎ (IsFault s ⊎ (s ≡ NoMemory)) → IsOfRun s
 ended_run s ended (inl is) = is
-ended_run s ended (inr (inl failed)) = absurd (subst IsEnded failed ended)
+ended_run s ended (inr (inl failed)) = absurd (no_end s ended failed)
 ended_run s ended (inr (inr wants)) = absurd (subst IsEnded wants ended)
 
 -- words have one command at most

@@ -1,5 +1,5 @@
 -- How a command ends: what each status says of the image and of the state that its run reaches.
-use Rattle.std.specs.Prelude.{◌≡◌, ⊤, ℕ, List, [], ◌++◌, map, Option, Some, None, true, MatchOption}
+use Rattle.std.specs.Prelude.{◌≡◌, ⊤, ℕ, Bool, List, [], ◌++◌, map, Option, Some, None, true, false, MatchOption}
 use Rattle.std.specs.Io.KnownBytes.{Appends}
 use Rattle.elf_load.specs.Faults.{fault}
 use Rattle.elf_load.specs.Fields.{entry}
@@ -9,7 +9,7 @@ use Rattle.cam_chain.specs.Slices.{Slices}
 use Rattle.cam_chain.specs.ChainValue.{slices_of}
 use Rattle.rvv_meaning.specs.declared.Mode.{Mode}
 use Rattle.rvv_meaning.specs.declared.Mode.TheVariants.{Running, Exited, Trapped, Unbuilt}
-use Rattle.rvv_meaning.specs.States.{State, run}
+use Rattle.rvv_meaning.specs.States.{State, Core, run}
 use Rattle.rvv_meaning.specs.Texts.{report}
 use Rattle.machine.specs.Moments.{Held, slices_after}
 use Rattle.machine.specs.Opening.{start}
@@ -18,10 +18,12 @@ use Rattle.machine.specs.declared.answers.Step.{Step}
 use Rattle.machine.specs.declared.answers.Step.TheVariants.{Ran, Exited as SaysExited, Trapped as SaysTrapped, Unbuilt as SaysUnbuilt}
 use Rattle.cape.specs.declared.words.Command.{Command}
 use Rattle.cape.specs.declared.words.Command.TheVariants.{Run, Check}
+use Rattle.cape.specs.declared.words.RunOptions.{RunOptions}
 use Rattle.cape.specs.declared.ending.Status.{Status}
 use Rattle.cape.specs.declared.ending.Status.TheVariants.{Done, StepLimit, Refused, Usage, ReadFault, WriteFault, NoMemory, Exited as ExitedWith, Trapped as HasTrapped, Unbuilt as NotBuilt}
 use Rattle.cape.specs.Lines.{refused_line}
 use Rattle.cape.specs.Layouts.{layout_text}
+use Rattle.cape.specs.StateTexts.{state_text}
 
 -- the status for a mode
 abbrev pub status_of : Mode → Status
@@ -67,12 +69,9 @@ abbrev pub Keeps : Option Kept → Option Held → Type 0
 Keeps None kept = kept ≡ None
 Keeps (Some k) kept = MatchOption kept ⊥ (IsAt k)
 
--- the length of a vector register in bits, and the steps that a run may make
+-- the length of a vector register in bits
 abbrev pub vlen : ℕ
 vlen = 1024
-
-abbrev pub budget : ℕ
-budget = 1_000_000_000
 
 -- the status is one that a run's state gives
 abbrev pub IsOfRun : Status → Type 0
@@ -126,18 +125,18 @@ IsEnded ReadFault = ⊥
 IsEnded WriteFault = ⊥
 IsEnded NoMemory = ⊥
 
--- the status comes before anything is put
-abbrev pub IsStopped : Status → Type 0
-IsStopped ReadFault = ⊤
-IsStopped NoMemory = ⊤
-IsStopped StepLimit = ⊥
-IsStopped (ExitedWith c) = ⊥
-IsStopped HasTrapped = ⊥
-IsStopped NotBuilt = ⊥
-IsStopped Done = ⊥
-IsStopped (Refused f) = ⊥
-IsStopped Usage = ⊥
-IsStopped WriteFault = ⊥
+-- a device failed
+abbrev pub IsFault : Status → Type 0
+IsFault ReadFault = ⊤
+IsFault WriteFault = ⊤
+IsFault StepLimit = ⊥
+IsFault (ExitedWith c) = ⊥
+IsFault HasTrapped = ⊥
+IsFault NotBuilt = ⊥
+IsFault Done = ⊥
+IsFault (Refused f) = ⊥
+IsFault Usage = ⊥
+IsFault NoMemory = ⊥
 
 -- How a command ends: its status, what is kept, what the input has left, and what each sink gains.
 pub record Ending : Type 0 where
@@ -147,19 +146,24 @@ pub record Ending : Type 0 where
   pub out : List ℕ
   pub err : List ℕ
 
+-- the text about the state, where it is asked for
+abbrev pub shown : Bool → Core → List ℕ
+shown true c = state_text c
+shown false c = []
+
 -- how a run that reaches this state with these slices ends
-abbrev pub ending_of : State → Slices → Ending
-ending_of s slices = record {
+abbrev pub ending_of : Bool → State → Slices → Ending
+ending_of shows s slices = record {
   status = status_of s.core.mode;
   kept = kept_for s.core.mode record { state = s; slices = slices };
   left = s.input;
   out = s.output;
-  err = s.errors ++ report s;
+  err = s.errors ++ (report s ++ shown shows s.core);
 }
 
--- how a run from a state ends
-abbrev pub ending_from : State → Ending
-ending_from s = ending_of (run s budget) (slices_after s budget)
+-- how a run from a state with these options ends
+abbrev pub ending_from : RunOptions → State → Ending
+ending_from options s = ending_of options.state (run s options.steps) (slices_after s options.steps)
 
 -- how a command ends whose image is refused
 abbrev pub refused : LoadFault → List ℕ → Ending
@@ -171,7 +175,7 @@ checked image input = record { status = Done; kept = None; left = input; out = l
 
 -- how a command ends whose image has no fault
 abbrev pub ending_loaded : Command → List ℕ → List ℕ → Ending
-ending_loaded Run image input = ending_from (start image vlen input)
+ending_loaded (Run options) image input = ending_from options (start image vlen input)
 ending_loaded Check image input = checked image input
 
 -- how a command on an image ends: refused by the image's first fault, or as the image says

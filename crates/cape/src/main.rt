@@ -6,6 +6,7 @@ mod layout;
 mod lines;
 mod loading;
 mod running;
+mod state;
 #[cfg(test)]
 mod tests;
 mod text;

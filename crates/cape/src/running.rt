@@ -1,20 +1,23 @@
 // Running a machine to its end, and the report about it.
-ghost use Rattle.std.specs.Prelude.{◌≡◌, ◌≤◌, ◌⊎◌, ◌*◌, ℕ, List, Option, true, false, None};
-ghost use Rattle.cape_io.specs.Devices.{Rose};
+ghost use Rattle.std.specs.Prelude.{◌≡◌, ◌≤◌, ◌⊎◌, ◌*◌, ◌++◌, OnOk, OnErr, ℕ, List, Option, true, false, None};
+ghost use Rattle.std.specs.Io.KnownBytes.{Appends};
+ghost use Rattle.cape_io.specs.Devices.{PutsFront, Rose};
 ghost use Rattle.rvv_meaning.specs.declared.Mode.TheVariants.{Running};
 ghost use Rattle.rvv_meaning.specs.States.{run};
 ghost use Rattle.machine.specs.Moments.{Moment, moments};
 ghost use Rattle.machine.specs.Views.{Shows};
 ghost use Rattle.machine.specs.Answers.{answer_of};
-ghost use Rattle.cape.specs.Endings.{IsOfRun, KeepsMachine, EndsBy, ending_of, FaultsBefore, budget, status_for_answer, held_for};
+ghost use Rattle.cape.specs.Grammar.{most_steps};
+ghost use Rattle.cape.specs.Endings.{IsOfRun, IsFault, KeepsMachine, EndsBy, ending_of, FaultsBefore, status_for_answer, held_for, shown};
+ghost use Rattle.cape.specs.Lines.{line_of};
 
 use crate::ending::Status;
 use crate::lines::report_line;
-use cape_io::{Sink, Source};
+use crate::state::put_state;
+use crate::text::put_line;
+use crate::words::RunOptions;
+use cape_io::{Failed, Sink, Source};
 use machine::{DeviceFault, Machine, Step};
-
-// The steps that a run may make.
-const BUDGET: u64 = 1_000_000_000;
 
 // The status for an answer of the machine.
 fn status_for(answer: Step) -> Status
@@ -40,9 +43,35 @@ fn keep(kept: &mut Option<Machine>, machine: Machine, answer: Step)
     }
 }
 
+// Puts the text about the state, where it is asked for.
+fn put_shown<E: Sink>(machine: &Machine, shows: bool, err: &mut E) -> Result<(), Failed>
+    ensures whole { OnOk result (Appends (E.held err.old) (E.held err.new) (shown shows machine.now.core)) }
+    ensures front { OnErr result (PutsFront (E.held err.old) (E.held err.new) (shown shows machine.now.core)) }
+    ensures cause { OnErr result (Rose (E.faults err.old) (E.faults err.new)) }
+    ensures later { E.faults err.old ≤ E.faults err.new }
+{
+    if shows {
+        put_state(machine, err)
+    } else {
+        Ok(())
+    }
+}
+
+// Puts the report, and the text about the state where it is asked for.
+fn put_end<E: Sink>(machine: &Machine, answer: Step, shows: bool, err: &mut E) -> Result<(), Failed>
+    ensures whole { OnOk result (Appends (E.held err.old) (E.held err.new) (line_of answer machine.now.core.csrs.retired ++ shown shows machine.now.core)) }
+    ensures front { OnErr result (PutsFront (E.held err.old) (E.held err.new) (line_of answer machine.now.core.csrs.retired ++ shown shows machine.now.core)) }
+    ensures cause { OnErr result (Rose (E.faults err.old) (E.faults err.new)) }
+    ensures later { E.faults err.old ≤ E.faults err.new }
+{
+    put_line(&report_line(answer, machine.retired()), err)?;
+    put_shown(machine, shows, err)
+}
+
 // Runs the machine to its end, puts the report, and keeps the machine.
 pub(crate) fn run_machine<S: Source, O: Sink, E: Sink>(
     machine: Machine,
+    options: RunOptions,
     input: &mut S,
     out: &mut O,
     err: &mut E,
@@ -50,13 +79,15 @@ pub(crate) fn run_machine<S: Source, O: Sink, E: Sink>(
 ) -> Status
     requires live { machine.live ≡ true }
     requires running { machine.core.mode ≡ Running }
+    requires few { options.steps ≤ most_steps }
     requires fresh { machine.core.csrs.retired ≡ 0 }
     requires none { kept.old ≡ None }
     ensures ends { IsOfRun result → (m : Moment) (first_out first_err : Option (List ℕ)) → Shows false m machine (S.left input.old) first_out (O.held out.old) first_err (E.held err.old)
-        → EndsBy (ending_of (run m.state budget) (moments m budget).slices) result kept.new (S.left input.new) first_out (O.held out.new) first_err (E.held err.new) }
-    ensures fronts { result ≡ Status.WriteFault → (m : Moment) (first_out first_err : Option (List ℕ)) → Shows false m machine (S.left input.old) first_out (O.held out.old) first_err (E.held err.old)
-        → FaultsBefore (ending_of (run m.state budget) (moments m budget).slices) first_out (O.held out.new) first_err (E.held err.new) }
-    ensures only { IsOfRun result ⊎ (result ≡ Status.WriteFault) }
+        → EndsBy (ending_of options.state (run m.state options.steps) (moments m options.steps).slices) result kept.new (S.left input.new) first_out (O.held out.new) first_err (E.held err.new) }
+    ensures fronts { IsFault result → (m : Moment) (first_out first_err : Option (List ℕ)) → Shows false m machine (S.left input.old) first_out (O.held out.old) first_err (E.held err.old)
+        → FaultsBefore (ending_of options.state (run m.state options.steps) (moments m options.steps).slices) first_out (O.held out.new) first_err (E.held err.new) }
+    ensures only { IsOfRun result ⊎ IsFault result }
+    ensures read { result ≡ Status.ReadFault → Rose (S.faults input.old) (S.faults input.new) }
     ensures write { result ≡ Status.WriteFault → Rose (O.faults out.old) (O.faults out.new) ⊎ Rose (E.faults err.old) (E.faults err.new) }
     ensures kept { KeepsMachine result ⊎ (kept.new ≡ None) }
     ensures later_input { S.faults input.old ≤ S.faults input.new }
@@ -64,12 +95,11 @@ pub(crate) fn run_machine<S: Source, O: Sink, E: Sink>(
     ensures later_err { E.faults err.old ≤ E.faults err.new }
 {
     let mut machine = machine;
-    match machine.run(BUDGET, input, out, err, false) {
-        Err(DeviceFault::ReadFault) => unreachable!(),
+    match machine.run(options.steps, input, out, err, false) {
+        Err(DeviceFault::ReadFault) => Status::ReadFault,
         Err(DeviceFault::WriteFault) => Status::WriteFault,
         Ok(answer) => {
-            let line = report_line(answer, machine.retired());
-            match err.put(line.as_str().as_bytes()) {
+            match put_end(&machine, answer, options.state, err) {
                 Ok(()) => {
                     keep(kept, machine, answer);
                     status_for(answer)

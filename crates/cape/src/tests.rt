@@ -9,6 +9,8 @@ use machine::Machine;
 use std::alloc::Global;
 use std::test::Fail;
 
+mod scalar;
+
 // The header of an image before its length, which stands twice, and behind it.
 const FRONT: [u8; 68] = [
     0x7f, 0x45, 0x4c, 0x46, 1, 1, 1, 0, 0, 0, 0, 0, 0, 0, 0, 0, 2, 0, 0xf3, 0, 1, 0, 0, 0, 0x54, 0,
@@ -63,6 +65,9 @@ struct Case<'a> {
     err_fails: &'a [(u64, usize)],
 }
 
+// The bytes that a sink of a call holds.
+const ROOM: usize = 10_000;
+
 // How it ended.
 #[derive(Drop)]
 struct Ended {
@@ -73,12 +78,17 @@ struct Ended {
 }
 
 fn end_of(alloc: Global, case: &Case) -> Result<Ended, Fail> {
+    end_with(alloc, case, &[], &[])
+}
+
+// The input gives one byte a call, and fails at the calls that are listed.
+fn end_with(alloc: Global, case: &Case, input: &[u8], input_fails: &[u64]) -> Result<Ended, Fail> {
     let words = words_of(alloc, case.words)?;
     let mut files = MemFiles::new(alloc, words.as_slice(), case.file_fails)?;
     files.add(alloc, "A", case.image)?;
-    let mut input = MemSource::new(alloc, &[], 1, &[])?;
-    let mut out = MemSink::new(alloc, 200, case.out_fails)?;
-    let mut err = MemSink::new(alloc, 200, case.err_fails)?;
+    let mut input = MemSource::new(alloc, input, 1, input_fails)?;
+    let mut out = MemSink::new(alloc, ROOM, case.out_fails)?;
+    let mut err = MemSink::new(alloc, ROOM, case.err_fails)?;
     let mut kept = None;
     let status = cape(
         alloc,
@@ -209,6 +219,21 @@ fn words_outside_the_grammar_are_a_usage_error(rt: HostRuntime) -> Result<(), Fa
     assert!(rt; is_usage(alloc, &["run", ""], &image)?);
     assert!(rt; is_usage(alloc, &["run", "-A"], &image)?);
     assert!(rt; is_usage(alloc, &["run", "A", "--vlen", "48"], &image)?);
+    assert!(rt; is_usage(alloc, &["run", "A", "--state", "--state"], &image)?);
+    assert!(rt; is_usage(alloc, &["run", "A", "--steps", "1", "--steps", "1"], &image)?);
+    assert!(rt; is_usage(alloc, &["run", "A", "--steps"], &image)?);
+    assert!(rt; is_usage(alloc, &["run", "A", "--steps=5"], &image)?);
+    assert!(rt; is_usage(alloc, &["run", "A", "--steps", "5 "], &image)?);
+    assert!(rt;
+        is_usage(
+            alloc,
+            &["run", "A", "--steps", "000000000000000000000"],
+            &image
+        )?
+    );
+    assert!(rt; is_usage(alloc, &["run", "A", "--steps", "1000000000001"], &image)?);
+    assert!(rt; is_usage(alloc, &["run", "--state", "A"], &image)?);
+    assert!(rt; is_usage(alloc, &["check", "A", "--state"], &image)?);
     assert!(rt; is_usage(alloc, &["run", "A", "A"], &image)?);
     assert!(rt; is_usage(alloc, &["Run", "A"], &image)?);
     assert!(rt; is_usage(alloc, &["check"], &image)?);
@@ -226,15 +251,13 @@ fn ends_so(alloc: Global, image: &[u8], status: Status, err: &[u8]) -> Result<bo
 #[test]
 fn what_is_not_built_ends_a_run(rt: HostRuntime) -> Result<(), Fail> {
     let alloc = rt.alloc();
-    let programs: [(&[u32], &str); 5] = [
-        (&[], "no words"),
-        (&[0x00000033], "add"),
-        (&[0x00000013], "past the words"),
-        (&[0x00000073], "another call"),
-        (&[0xcd027057, 0x2c108157], "masked"),
+    let programs: [([u32; 2], &str); 4] = [
+        ([0xcd027057, 0x2c108157], "masked"),
+        ([0xcd027057, 0x02218257], "vadd"),
+        ([0x0205e007, 0x00000013], "a load"),
+        ([0x0205e027, 0x00000013], "a store"),
     ];
     for (words, name) in programs.iter() {
-        assert!(rt; words.len() < 9);
         let image = image(alloc, words)?;
         assert!(rt;
             ends_so(alloc, &image, Status::Unbuilt, b"cape: unbuilt\n")?,
@@ -329,11 +352,49 @@ fn a_check_shows_what_would_be_mapped(rt: HostRuntime) -> Result<(), Fail> {
     Ok(())
 }
 
+// The lines of the control registers stand behind those of the report, the place and the 32 registers.
+const CONTROLS: usize = 443;
+
+#[test]
+fn a_run_of_no_steps_shows_the_state_at_its_start(rt: HostRuntime) -> Result<(), Fail> {
+    let alloc = rt.alloc();
+    let ended = end_of(
+        alloc,
+        &Case {
+            words: &["run", "A", "--steps", "0", "--state"],
+            image: &image(alloc, &SPLAT)?,
+            file_fails: &[],
+            out_fails: &[],
+            err_fails: &[],
+        },
+    )?;
+    assert!(rt; ended.status == Status::StepLimit);
+    let text = ended.err.as_slice();
+    assert_eq!(rt; text.len(), 8829);
+    let front = b"cape: step limit after 0\npc 00010054\nx0 00000000\nx1 00000000\nx2 7fffffc0\n";
+    assert!(rt; text.starts_with(front.as_slice()));
+    let controls = b"vl 0\nvtype 80000000\nvstart 0\nvxrm 0\nvxsat 0\nv0 0000";
+    assert!(rt; text[CONTROLS..].starts_with(controls.as_slice()));
+    Ok(())
+}
+
 #[test]
 fn devices_that_fail_end_the_call(rt: HostRuntime) -> Result<(), Fail> {
     let alloc = rt.alloc();
     let image = image(alloc, &HELLO)?;
-    let cases: [(Case, Status, &[u8], &[u8]); 5] = [
+    let cases: [(Case, Status, &[u8], &[u8]); 6] = [
+        (
+            Case {
+                words: &["run", "A", "--state"],
+                image: &image,
+                file_fails: &[],
+                out_fails: &[],
+                err_fails: &[(1, 2)],
+            },
+            Status::WriteFault,
+            b"hi\n",
+            b"cape: exited 0 after 9\npc",
+        ),
         (
             Case {
                 words: &["run", "missing"],

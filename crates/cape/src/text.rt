@@ -1,9 +1,13 @@
 // Pieces of text.
-ghost use Rattle.std.specs.Prelude.{◌≡◌, ◌+◌, ◌<◌, ◌≤◌, ◌++◌};
+ghost use Rattle.std.specs.Prelude.{◌≡◌, ◌+◌, ◌<◌, ◌≤◌, ◌++◌, OnOk, OnErr};
+ghost use Rattle.std.specs.Io.KnownBytes.{Appends};
+ghost use Rattle.cape_io.specs.Devices.{PutsFront, Rose};
 ghost use Rattle.arrayvec.specs.ArrayString.{array_string_len};
 ghost use Rattle.rvv_meaning.specs.Texts.{hex_digit, hex_word};
+ghost use Rattle.cape.specs.StateTexts.{hex_byte};
 
 use arrayvec::ArrayString;
+use cape_io::{Failed, Sink};
 
 /// A line of text, of at most 240 bytes.
 pub type Line = ArrayString<240>;
@@ -39,4 +43,25 @@ pub(crate) fn push_hex(line: &mut Line, value: u32)
     for place in (0..DIGITS).rev() {
         line.push(hex_glyph((value >> (DIGIT_BITS * place)) % RADIX));
     }
+}
+
+/// Appends a byte in two hexadecimal digits, in lower case.
+pub(crate) fn push_byte(line: &mut Line, value: u8)
+    requires { array_string_len line.old + 2 ≤ 240 }
+    ensures text { line.new.bytes ≡ line.old.bytes ++ hex_byte value }
+    ensures room { array_string_len line.new ≡ array_string_len line.old + 2 }
+{
+    let value = u32::from(value);
+    line.push(hex_glyph(value / RADIX));
+    line.push(hex_glyph(value % RADIX));
+}
+
+/// Puts a line; at `Failed` it put some front of it.
+pub(crate) fn put_line<E: Sink>(line: &Line, err: &mut E) -> Result<(), Failed>
+    ensures whole { OnOk result (Appends (E.held err.old) (E.held err.new) line.now.bytes) }
+    ensures front { OnErr result (PutsFront (E.held err.old) (E.held err.new) line.now.bytes) }
+    ensures cause { OnErr result (Rose (E.faults err.old) (E.faults err.new)) }
+    ensures later { E.faults err.old ≤ E.faults err.new }
+{
+    err.put(line.as_str().as_bytes())
 }

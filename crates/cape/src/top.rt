@@ -1,12 +1,12 @@
 // The top call.
-ghost use Rattle.std.specs.Prelude.{◌≢◌, ◌≡◌, ◌<◌, ◌≤◌, ◌⊎◌, ℕ, List, Some, None, [], length, map, false, string_bytes, IsSome};
+ghost use Rattle.std.specs.Prelude.{◌≢◌, ◌≡◌, ◌<◌, ◌≤◌, ◌⊎◌, ℕ, List, Some, None, [], length, map, false, string_bytes, IsSome, IsSomeAnd};
 ghost use Rattle.std.specs.Io.KnownBytes.{Appends};
 ghost use Rattle.cape_io.specs.Devices.{Rose, Present, PutsFront, word_at};
 ghost use Rattle.rvv_meaning.specs.Images.{start_state};
 ghost use Rattle.rvv_meaning.specs.Texts.{usage_line};
 ghost use Rattle.machine.specs.Opening.{memory_of};
-ghost use Rattle.cape.specs.Endings.{IsOfRun, IsEnded, IsRefused, IsStopped, KeepsMachine, EndsBy, FaultsBefore, ending, ending_from, vlen};
-ghost use Rattle.cape.specs.Grammar.{command_of as command_in};
+ghost use Rattle.cape.specs.Endings.{IsOfRun, IsEnded, IsFault, IsRefused, KeepsMachine, EndsBy, FaultsBefore, ending, ending_from, vlen};
+ghost use Rattle.cape.specs.Grammar.{command_of as command_in, most_steps, IsInRange, IsRun};
 ghost use Rattle.elf_load.specs.Layout.{span_of};
 ghost use Rattle.cape.specs.Layouts.{layout_text};
 ghost use Rattle.cape.specs.Lines.{refused_line as line_for};
@@ -18,7 +18,7 @@ use crate::layout::put_layout;
 use crate::lines::refused_line;
 use crate::loading::{Stop, load_image};
 use crate::running::run_machine;
-use crate::words::{Command, command_of};
+use crate::words::{Command, RunOptions, command_of};
 use cape_io::{Files, Sink, Source};
 use elf_load::{LoadFault, Loaded};
 use machine::Machine;
@@ -50,17 +50,20 @@ fn refuse<E: Sink>(fault: LoadFault, err: &mut E) -> Status
 fn run_loaded<S: Source, O: Sink, E: Sink>(
     alloc: Global,
     loaded: Loaded,
+    options: RunOptions,
     input: &mut S,
     out: &mut O,
     err: &mut E,
     kept: &mut Option<Machine>,
 ) -> Status
+    requires few { options.steps ≤ most_steps }
     requires none { kept.old ≡ None }
     ensures ends { IsOfRun result → (input_bytes : List ℕ) → S.left input.old ≡ Some input_bytes
-        → EndsBy (ending_from (start_state vlen loaded.entry_pc (memory_of loaded.regions loaded.heap loaded.heap_end) input_bytes)) result kept.new (S.left input.new) (O.held out.old) (O.held out.new) (E.held err.old) (E.held err.new) }
-    ensures fronts { result ≡ Status.WriteFault → (input_bytes : List ℕ) → S.left input.old ≡ Some input_bytes
-        → FaultsBefore (ending_from (start_state vlen loaded.entry_pc (memory_of loaded.regions loaded.heap loaded.heap_end) input_bytes)) (O.held out.old) (O.held out.new) (E.held err.old) (E.held err.new) }
-    ensures only { IsOfRun result ⊎ ((result ≡ Status.WriteFault) ⊎ (result ≡ Status.NoMemory)) }
+        → EndsBy (ending_from options (start_state vlen loaded.entry_pc (memory_of loaded.regions loaded.heap loaded.heap_end) input_bytes)) result kept.new (S.left input.new) (O.held out.old) (O.held out.new) (E.held err.old) (E.held err.new) }
+    ensures fronts { IsFault result → (input_bytes : List ℕ) → S.left input.old ≡ Some input_bytes
+        → FaultsBefore (ending_from options (start_state vlen loaded.entry_pc (memory_of loaded.regions loaded.heap loaded.heap_end) input_bytes)) (O.held out.old) (O.held out.new) (E.held err.old) (E.held err.new) }
+    ensures only { IsOfRun result ⊎ (IsFault result ⊎ (result ≡ Status.NoMemory)) }
+    ensures read { result ≡ Status.ReadFault → Rose (S.faults input.old) (S.faults input.new) }
     ensures nothing { result ≡ Status.NoMemory → Appends (O.held out.old) (O.held out.new) [] × Appends (E.held err.old) (E.held err.new) [] }
     ensures kept { KeepsMachine result ⊎ (kept.new ≡ None) }
     ensures write { result ≡ Status.WriteFault → Rose (O.faults out.old) (O.faults out.new) ⊎ Rose (E.faults err.old) (E.faults err.new) }
@@ -69,7 +72,7 @@ fn run_loaded<S: Source, O: Sink, E: Sink>(
     ensures later_err { E.faults err.old ≤ E.faults err.new }
 {
     match Machine::new(alloc, loaded, VLEN, Policy::Keep) {
-        Ok(machine) => run_machine(machine, input, out, err, kept),
+        Ok(machine) => run_machine(machine, options, input, out, err, kept),
         Err(_) => Status::NoMemory,
     }
 }
@@ -100,17 +103,18 @@ fn do_command<F: Files, S: Source, O: Sink, E: Sink>(
     kept: &mut Option<Machine>,
 ) -> Status
     requires place { place < length (F.names files.old) }
+    requires few { IsInRange command }
     requires none { kept.old ≡ None }
     ensures ends { IsEnded result → (image input_bytes : List ℕ) → F.told files.old (word_at (F.names files.old) place) ≡ Present image → S.left input.old ≡ Some input_bytes
         → EndsBy (ending command image input_bytes) result kept.new (S.left input.new) (O.held out.old) (O.held out.new) (E.held err.old) (E.held err.new) }
-    ensures fronts { result ≡ Status.WriteFault → (image input_bytes : List ℕ) → F.told files.old (word_at (F.names files.old) place) ≡ Present image → S.left input.old ≡ Some input_bytes
+    ensures fronts { IsFault result → (image input_bytes : List ℕ) → F.told files.old (word_at (F.names files.old) place) ≡ Present image → S.left input.old ≡ Some input_bytes
         → FaultsBefore (ending command image input_bytes) (O.held out.old) (O.held out.new) (E.held err.old) (E.held err.new) }
-    ensures of_run { IsOfRun result → command ≡ Command.Run }
+    ensures of_run { IsOfRun result → IsRun command }
     ensures of_check { result ≡ Status.Done → command ≡ Command.Check }
-    ensures nothing { IsStopped result → Appends (O.held out.old) (O.held out.new) [] × Appends (E.held err.old) (E.held err.new) [] }
+    ensures nothing { result ≡ Status.NoMemory → Appends (O.held out.old) (O.held out.new) [] × Appends (E.held err.old) (E.held err.new) [] }
     ensures kept { KeepsMachine result ⊎ (kept.new ≡ None) }
     ensures never { result ≢ Status.Usage }
-    ensures read { result ≡ Status.ReadFault → FailedOn place (F.faults files.old) (F.faults files.new) (F.at files.new) (F.since files.new) }
+    ensures read { result ≡ Status.ReadFault → FailedOn place (F.faults files.old) (F.faults files.new) (F.at files.new) (F.since files.new) ⊎ Rose (S.faults input.old) (S.faults input.new) }
     ensures write { result ≡ Status.WriteFault → Rose (O.faults out.old) (O.faults out.new) ⊎ Rose (E.faults err.old) (E.faults err.new) }
     ensures later_files { F.faults files.old ≤ F.faults files.new }
     ensures later_input { S.faults input.old ≤ S.faults input.new }
@@ -124,7 +128,7 @@ fn do_command<F: Files, S: Source, O: Sink, E: Sink>(
         Err(Stop::Refused(fault)) => return refuse(fault, err),
     };
     match command {
-        Command::Run => run_loaded(alloc, loaded, input, out, err, kept),
+        Command::Run(options) => run_loaded(alloc, loaded, options, input, out, err, kept),
         Command::Check => check_loaded(&loaded, out),
     }
 }
@@ -148,23 +152,23 @@ pub fn cape<F: Files, S: Source, O: Sink, E: Sink>(
         → EndsBy (ending command image input_bytes) result kept.new (S.left input.new) (O.held out.old) (O.held out.new) (E.held err.old) (E.held err.new) }
 
     // Each status has its cause.
-    ensures of_run { IsOfRun result → command_in (map string_bytes words.now) ≡ Some Command.Run }
+    ensures of_run { IsOfRun result → IsSomeAnd (command_in (map string_bytes words.now)) IsRun }
     ensures of_check { result ≡ Status.Done → command_in (map string_bytes words.now) ≡ Some Command.Check }
     ensures of_image { IsRefused result → IsSome (command_in (map string_bytes words.now)) }
     ensures usage { result ≡ Status.Usage → command_in (map string_bytes words.now) ≡ None }
     ensures no_command { command_in (map string_bytes words.now) ≡ None → (result ≡ Status.Usage) ⊎ (result ≡ Status.WriteFault) }
     ensures usage_text { result ≡ Status.Usage → Appends (O.held out.old) (O.held out.new) [] × Appends (E.held err.old) (E.held err.new) usage_line }
-    ensures read { result ≡ Status.ReadFault → FailedOn 1 (F.faults files.old) (F.faults files.new) (F.at files.new) (F.since files.new) }
+    ensures read { result ≡ Status.ReadFault → FailedOn 1 (F.faults files.old) (F.faults files.new) (F.at files.new) (F.since files.new) ⊎ Rose (S.faults input.old) (S.faults input.new) }
     ensures read_of { result ≡ Status.ReadFault → IsSome (command_in (map string_bytes words.now)) }
     ensures write { result ≡ Status.WriteFault → Rose (O.faults out.old) (O.faults out.new) ⊎ Rose (E.faults err.old) (E.faults err.new) }
 
     // With no fault counted a command of the grammar ends.
-    ensures complete { IsSome (command_in (map string_bytes words.now)) → (Rose (F.faults files.old) (F.faults files.new) → ⊥) → (Rose (O.faults out.old) (O.faults out.new) → ⊥) → (Rose (E.faults err.old) (E.faults err.new) → ⊥) → IsEnded result ⊎ (result ≡ Status.NoMemory) }
+    ensures complete { IsSome (command_in (map string_bytes words.now)) → (Rose (F.faults files.old) (F.faults files.new) → ⊥) → (Rose (S.faults input.old) (S.faults input.new) → ⊥) → (Rose (O.faults out.old) (O.faults out.new) → ⊥) → (Rose (E.faults err.old) (E.faults err.new) → ⊥) → IsEnded result ⊎ (result ≡ Status.NoMemory) }
 
     // What stands where the command failed.
-    ensures fronts { result ≡ Status.WriteFault → (command : Command) (image input_bytes : List ℕ) → command_in (map string_bytes words.now) ≡ Some command → F.told files.old (word_at (map string_bytes words.now) 1) ≡ Present image → S.left input.old ≡ Some input_bytes
+    ensures fronts { IsFault result → (command : Command) (image input_bytes : List ℕ) → command_in (map string_bytes words.now) ≡ Some command → F.told files.old (word_at (map string_bytes words.now) 1) ≡ Present image → S.left input.old ≡ Some input_bytes
         → FaultsBefore (ending command image input_bytes) (O.held out.old) (O.held out.new) (E.held err.old) (E.held err.new) }
-    ensures nothing { IsStopped result → Appends (O.held out.old) (O.held out.new) [] × Appends (E.held err.old) (E.held err.new) [] }
+    ensures nothing { result ≡ Status.NoMemory → Appends (O.held out.old) (O.held out.new) [] × Appends (E.held err.old) (E.held err.new) [] }
     ensures kept { KeepsMachine result ⊎ (kept.new ≡ None) }
 {
     let command = match command_of(words) {

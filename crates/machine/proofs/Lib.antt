@@ -1,8 +1,8 @@
 -- Lemmas on moments and runs.
 pub mod Starts
 pub mod Carried
+pub mod Returns
 pub mod Showing
-pub mod Putting
 pub mod Runs
 pub mod Modes
 pub mod Engine

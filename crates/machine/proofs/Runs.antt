@@ -2,7 +2,8 @@
 use Rattle.std.proofs.Common.{◌≡◌, ℕ, zero, suc, ◌+◌, ◌-◌, ◌<◌, ◌≤◌, Bool, true, false, List, [], ◌∷◌, ◌++◌, Option, Some, None, refl, sym, ap, ◌∙◌, append_assoc, append-nil, arith}
 use Rattle.rvv_meaning.specs.States.{Core, State, step, run, is_running}
 use Rattle.machine.specs.Moments.{Held, Moment, moment_after, moments}
-use Rattle.machine.specs.Views.{Shows, GoesBy, FaultsIn, GainsFront, IsFrontOf, RunsOn, shown_out, shown_err, gains_out, gains_err}
+use Rattle.guest_env.specs.Answers.{IsReading}
+use Rattle.machine.specs.Views.{GoesBy, FaultsIn, IsFrontOf, RunsOn, ReadsIn, shown_out, shown_err, gains_out, gains_err}
 use Rattle.machine.proofs.Showing.{shown_out-step, shown_err-step}
 
 front_same : (xs : List ℕ) → IsFrontOf xs xs
@@ -58,12 +59,33 @@ grows_run : (merged : Bool) (n : ℕ) (m : Moment) → Grows merged m.state (mom
 grows_run merged zero m = rw (moments_none m) (grows_none merged m.state)
 grows_run merged (suc n) m = grows_run_by merged (is_running m.state.core.mode) m n refl (grows_run merged n)
 
+-- one step more
+moments_more_by : (b : Bool) (m : Moment) (j : ℕ) → is_running m.state.core.mode ≡ b → is_running (moments m (suc j)).state.core.mode ≡ true
+    → ((t : Moment) → is_running (moments t j).state.core.mode ≡ true → moments t (suc j) ≡ moment_after (moments t j))
+    → moments m (suc (suc j)) ≡ moment_after (moments m (suc j))
+moments_more_by true m j going running more =
+    let one : moments m (suc j) ≡ moments (moment_after m) j = moments_running m j going in
+    moments_running m (suc j) going ∙ rw one (more (moment_after m) (rw one at running))
+moments_more_by false m j stopped running more =
+    let same : moments m (suc j) ≡ m = moments_stopped m (suc j) stopped in
+    let goes : is_running m.state.core.mode ≡ true = rw same at running in
+    cc
+
+moments_more : (j : ℕ) (m : Moment) → is_running (moments m j).state.core.mode ≡ true → moments m (suc j) ≡ moment_after (moments m j)
+moments_more zero m running =
+    let none = moments_none m in
+    moments_running m 0 (rw none at running) ∙ moments_none (moment_after m) ∙ rw none refl
+moments_more (suc j) m running = moments_more_by (is_running m.state.core.mode) m j refl running (moments_more j)
+
 module _ (n k : ℕ) (merged : Bool) (h0 h1 h2 : Held) (l0 l1 l2 o0 o1 o2 e0 e1 e2 : Option (List ℕ)) where
   -- a step of the run
-  pub runs_step : RunsOn n (suc k) merged h0 h1 l0 l1 o0 o1 e0 e1 → is_running h1.core.mode ≡ true → GoesBy moment_after merged h1 h2 l1 l2 o1 o2 e1 e2 → RunsOn n k merged h0 h2 l0 l2 o0 o2 e0 e2
-  runs_step on going goes = λ m fo fe shows.
+  pub runs_step : suc k ≤ n → RunsOn n (suc k) merged h0 h1 l0 l1 o0 o1 e0 e1 → is_running h1.core.mode ≡ true → GoesBy moment_after merged h1 h2 l1 l2 o1 o2 e1 e2 → RunsOn n k merged h0 h2 l0 l2 o0 o2 e0 e2
+  runs_step more on going goes = λ m fo fe shows.
       let w = on m fo fe shows in
-      (moment_after w.0, goes w.0 fo fe w.1, rw (w.2, moments_running w.0 k (rw w.1.holds going)) refl)
+      let runs : is_running w.0.state.core.mode ≡ true = rw w.1.holds going in
+      let left : n - k ≡ suc (n - suc k) = omega arith in
+      let reached : moments m (suc (n - suc k)) ≡ moment_after (moments m (n - suc k)) = moments_more (n - suc k) m (rw w.3 at runs) in
+      (moment_after w.0, goes w.0 fo fe w.1, rw (w.2, moments_running w.0 k runs) refl, rw left (ap moment_after w.3 ∙ sym reached))
 
   -- the run is over at a step that stops
   pub runs_last : RunsOn n (suc k) merged h0 h1 l0 l1 o0 o1 e0 e1 → is_running h1.core.mode ≡ true → GoesBy moment_after merged h1 h2 l1 l2 o1 o2 e1 e2 → is_running h2.core.mode ≡ false → GoesBy (λ m. moments m n) merged h0 h2 l0 l2 o0 o2 e0 e2
@@ -83,6 +105,12 @@ module _ (n k : ℕ) (merged : Bool) (h0 h1 h2 : Held) (l0 l1 l2 o0 o1 o2 e0 e1 
         (f.1.0, f.1.1, front_through f.1.0 (shown_err merged (moment_after w.0).state) (shown_err merged (moments (moment_after w.0) k).state) f.1.2 grown.grows_err),
       )
 
+  -- a read of the run that fails
+  pub runs_reading : suc k ≤ n → RunsOn n (suc k) merged h0 h1 l0 l1 o0 o1 e0 e1 → IsReading h1.core.regs h1.core.mem → ReadsIn n merged h0 l0 o0 e0
+  runs_reading more on reads = λ m fo fe shows.
+      let w = on m fo fe shows in
+      (n - suc k, omega arith, rw (← w.3, w.1.holds) reads)
+
 -- the run is over after its last step
 pub runs_done : (n : ℕ) (merged : Bool) (h0 h1 : Held) (l0 l1 o0 o1 e0 e1 : Option (List ℕ)) → RunsOn n 0 merged h0 h1 l0 l1 o0 o1 e0 e1 → GoesBy (λ m. moments m n) merged h0 h1 l0 l1 o0 o1 e0 e1
 runs_done n merged h0 h1 l0 l1 o0 o1 e0 e1 on = λ m fo fe shows.
@@ -91,7 +119,9 @@ runs_done n merged h0 h1 l0 l1 o0 o1 e0 e1 on = λ m fo fe shows.
 
 -- before the first step
 pub runs_first : (n : ℕ) (merged : Bool) (h : Held) (l o e : Option (List ℕ)) → RunsOn n n merged h h l l o o e e
-runs_first n merged h l o e = λ m fo fe shows. (m, shows, refl)
+runs_first n merged h l o e = λ m fo fe shows.
+    let none : n - n ≡ 0 = omega arith in
+    (m, shows, refl, rw none (sym (moments_none m)))
 
 -- the state of the moments is the run of the state
 state_run_by : (b : Bool) (m : Moment) (n : ℕ) → is_running m.state.core.mode ≡ b → ((t : Moment) → (moments t n).state ≡ run t.state n) → (moments m (suc n)).state ≡ run m.state (suc n)

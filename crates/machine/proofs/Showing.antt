@@ -2,10 +2,11 @@
 use Rattle.std.proofs.Common.{◌≡◌, ℕ, Bool, true, false, List, [], ◌∷◌, ◌++◌, Option, Some, None, refl, sym, ap, ◌∙◌, append_assoc, append-nil, take, drop}
 use Rattle.std.specs.Prelude.{if◌then◌else◌}
 use Rattle.std.specs.Io.KnownBytes.{Appends}
-use Rattle.std.proofs.lemmas.List.{take-append-drop}
+use Rattle.std.proofs.lemmas.List.{take-append-drop, append_cancel_left}
 use Rattle.cape_io.specs.Devices.{PutsFront}
 use Rattle.cam_chain.specs.ChainValue.{slices_of}
-use Rattle.rvv_meaning.specs.States.{Core, State, step, puts, put_on, core_after}
+use Rattle.rvv_meaning.specs.States.{State, step, asked, core_after}
+use Rattle.guest_env.specs.Inputs.{Takes}
 use Rattle.machine.specs.Moments.{Held, Moment, moment_after, program_at, slices_by, last_by}
 use Rattle.machine.specs.Views.{Shows, GoesBy, FaultsIn, GainsFront, IsFrontOf, shown_out, shown_err, gains_out, gains_err}
 use Rattle.machine.specs.Carrying.{Carries, Fails}
@@ -28,23 +29,36 @@ unfolding step
 shown_err-step true s = refl
 shown_err-step false s = refl
 
-input-step : (s : State) → (step s).input ≡ s.input
+input-step : (s : State) → (step s).input ≡ drop (asked s.core) s.input
 unfolding step
 input-step s = refl
 
-core-step : (s : State) → (step s).core ≡ core_after s.core
+core-step : (s : State) → (step s).core ≡ core_after s.core (take (asked s.core) s.input)
 unfolding step
 core-step s = refl
 
+same_rest : (n : ℕ) (input taken rest : List ℕ) → taken ≡ take n input → input ≡ taken ++ rest → rest ≡ drop n input
+same_rest n input taken rest is parts =
+    append_cancel_left taken rest (drop n input) (sym parts ∙ sym (take-append-drop n input) ∙ ap (λ (xs : List ℕ). xs ++ drop n input) (sym is))
+
+-- what is left of an input that was told
+left_after : (n : ℕ) (left left' : Option (List ℕ)) (input taken : List ℕ) → left ≡ Some input → Takes n left left' taken → left' ≡ Some (drop n input)
+left_after n None left' input taken told took = cc
+left_after n (Some bytes) None input taken told took = absurd took.consumed
+left_after n (Some bytes) (Some rest) input taken told took =
+    let same : bytes ≡ input = cc in
+    ap Some (same_rest n input taken rest (took.told input told) (sym same ∙ took.consumed))
+
 -- a step that was carried out is a step of what the objects show
-pub goes_carried : (merged : Bool) (old new : Held) (left out out' err err' : Option (List ℕ)) → Carries merged old new out out' err err' → GoesBy moment_after merged old new left left out out' err err'
+pub goes_carried : (merged : Bool) (old new : Held) (taken : List ℕ) (left left' out out' err err' : Option (List ℕ)) → Carries merged old new taken left left' out out' err err' → GoesBy moment_after merged old new left left' out out' err err'
 unfolding moment_after
-goes_carried merged old new left out out' err err' w = λ m first_out first_err shows.
+goes_carried merged old new taken left left' out out' err err' w = λ m first_out first_err shows.
+    let taken_is : taken ≡ take (asked old.core) m.state.input = w.took.told m.state.input shows.told in
     record {
-      holds = core-step m.state ∙ rw shows.holds (sym w.core);
+      holds = core-step m.state ∙ rw (shows.holds, ← taken_is) (sym w.core);
       slices = rw (shows.holds, shows.slices) (sym w.slices);
       last = rw shows.holds (sym w.last);
-      told = rw (input-step m.state) shows.told;
+      told = rw (input-step m.state, shows.holds) (left_after (asked old.core) left left' m.state.input taken shows.told w.took);
       gained_out = rw (shown_out-step merged m.state, shows.holds) (appends_more first_out out out' (shown_out merged m.state) (gains_out merged old.core) shows.gained_out w.gained_out);
       gained_err = rw (shown_err-step merged m.state, shows.holds) (appends_more first_err err err' (shown_err merged m.state) (gains_err merged old.core) shows.gained_err w.gained_err);
     }
@@ -62,9 +76,9 @@ faults_failed merged old left out out' err err' w = λ m first_out first_err sho
 )
 
 -- the program of the step before plays no part in a step
-pub carries_forgotten : (merged : Bool) (old new : Held) (out out' err err' : Option (List ℕ)) → Carries merged (record old { last = [] }) new out out' err err' → Carries merged old new out out' err err'
-carries_forgotten merged old new out out' err err' w =
-    record { core = w.core; slices = w.slices; last = w.last; live = w.live; gained_out = w.gained_out; gained_err = w.gained_err }
+pub carries_forgotten : (merged : Bool) (old new : Held) (taken : List ℕ) (left left' out out' err err' : Option (List ℕ)) → Carries merged (record old { last = [] }) new taken left left' out out' err err' → Carries merged old new taken left left' out out' err err'
+carries_forgotten merged old new taken left left' out out' err err' w =
+    record { core = w.core; slices = w.slices; last = w.last; live = w.live; took = w.took; gained_out = w.gained_out; gained_err = w.gained_err }
 
 pub fails_forgotten : (merged : Bool) (old : Held) (out out' err err' : Option (List ℕ)) → Fails merged (record old { last = [] }) out out' err err' → Fails merged old out out' err err'
 fails_forgotten merged old out out' err err' w = record { front_out = w.front_out; front_err = w.front_err }

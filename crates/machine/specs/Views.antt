@@ -1,9 +1,9 @@
 -- When objects show a moment: what the machine holds, what a source has left, and what two sinks have gained.
-use Rattle.std.specs.Prelude.{◌≡◌, ◌==◌, ◌||◌, ℕ, ◌<◌, Bool, true, List, [], ◌++◌, Option, Some, if◌then◌else◌, MatchBool}
+use Rattle.std.specs.Prelude.{◌≡◌, ℕ, ◌-◌, ◌<◌, Bool, List, [], ◌++◌, Option, Some, if◌then◌else◌}
 use Rattle.std.specs.Io.KnownBytes.{Appends}
-use Rattle.cape_io.specs.Devices.{Rose}
 use Rattle.cam_chain.specs.ChainValue.{slices_of}
-use Rattle.rvv_meaning.specs.Calls.{is_output, is_readable}
+use Rattle.guest_env.specs.Outputs.{bytes_out, bytes_err}
+use Rattle.guest_env.specs.Answers.{IsReading}
 use Rattle.rvv_meaning.specs.States.{Core, State, reg, puts}
 use Rattle.machine.specs.Moments.{Held, Moment, moments}
 
@@ -14,13 +14,6 @@ shown_out merged s = if merged then [] else s.output
 
 abbrev pub shown_err : Bool → State → List ℕ
 shown_err merged s = if merged then s.joint else s.errors
-
--- what they gain of bytes that a call puts on a descriptor: 1 is the output, 2 the error output
-abbrev pub bytes_out : Bool → ℕ → List ℕ → List ℕ
-bytes_out merged descriptor bytes = if merged then [] else if descriptor == 1 then bytes else []
-
-abbrev pub bytes_err : Bool → ℕ → List ℕ → List ℕ
-bytes_err merged descriptor bytes = if merged then bytes else if descriptor == 2 then bytes else []
 
 -- what they gain in a step
 abbrev pub gains_out : Bool → Core → List ℕ
@@ -58,19 +51,15 @@ FaultsIn f merged old left out out' err err' =
     (m : Moment) (first_out first_err : Option (List ℕ)) → Shows merged m old left first_out out first_err err
     → GainsFront first_out out' (shown_out merged (f m).state) × GainsFront first_err err' (shown_err merged (f m).state)
 
--- Whatever moment the objects show before, they show one after from which k steps lead where n lead from that.
+-- Whatever moment the objects show before, they show one after, which n - k steps reach from it and from which k steps
+-- lead where n lead from that.
 abbrev pub RunsOn : ℕ → ℕ → Bool → Held → Held → Option (List ℕ) → Option (List ℕ) → Option (List ℕ) → Option (List ℕ) → Option (List ℕ) → Option (List ℕ) → Type 0
 RunsOn n k merged old new left left' out out' err err' =
     (m : Moment) (first_out first_err : Option (List ℕ)) → Shows merged m old left first_out out first_err err
-    → (t : Moment) × Shows merged t new left' first_out out' first_err err' × (moments m n ≡ moments t k)
+    → (t : Moment) × Shows merged t new left' first_out out' first_err err' × (moments m n ≡ moments t k) × (t ≡ moments m (n - k))
 
--- the count that rises where a put on a descriptor fails is that of the sink that takes its bytes
-abbrev pub IsFaultOf : Bool → ℕ → ℕ → ℕ → ℕ → ℕ → Type 0
-IsFaultOf merged descriptor out out' err err' = MatchBool (merged || (descriptor == 2)) (Rose err err') (Rose out out')
-
--- the machine stands at a call that writes some bytes that may be read to one of the outputs
-pub record IsWriting (c : Core) : Type 0 where
-  pub number : reg c 17 ≡ 64
-  pub descriptor : is_output (reg c 10) ≡ true
-  pub some : 0 < reg c 12
-  pub inside : is_readable c.mem.pages (reg c 11) (reg c 12) ≡ true
+-- Whatever moment the objects show before, some step of n from it starts at a read of some bytes that is not refused.
+abbrev pub ReadsIn : ℕ → Bool → Held → Option (List ℕ) → Option (List ℕ) → Option (List ℕ) → Type 0
+ReadsIn n merged old left out err =
+    (m : Moment) (first_out first_err : Option (List ℕ)) → Shows merged m old left first_out out first_err err
+    → (k : ℕ) × (k < n) × IsReading (moments m k).state.core.regs (moments m k).state.core.mem

@@ -1,38 +1,46 @@
 // The machine and its steps.
-ghost use Rattle.std.specs.Prelude.{◌≡◌, ◌+◌, ◌*◌, ◌/◌, ◌<◌, ◌≤◌, ◌^◌, [], true, false, length, OnOk, OnErr, IfOk, IsErrOf, slice_index, slice_index_or};
+ghost use Rattle.std.specs.Prelude.{◌≡◌, ◌+◌, ◌*◌, ◌/◌, ◌<◌, ◌≤◌, ◌^◌, ℕ, List, [], true, false, length, OnOk, OnErr, IfOk, IsErrOf, slice_index, slice_index_or};
 ghost use Rattle.std.specs.Io.KnownBytes.{Appends};
-ghost use Rattle.cape_io.specs.Devices.{PutsFront};
+ghost use Rattle.cape_io.specs.Devices.{PutsFront, Rose};
+ghost use Rattle.bit_laws.specs.Numbers.{low};
 ghost use Rattle.cam_chain.specs.Slices.{blank};
 ghost use Rattle.cam_chain.specs.ChainValue.{slices_of, no_counts};
 ghost use Rattle.micro_ir.specs.Replay.{replay};
+ghost use Rattle.rv32_decode.specs.Spelling.{IsSpelled};
 ghost use Rattle.rvv_meaning.specs.declared.Meaning.TheVariants.{Scalar};
 ghost use Rattle.rvv_meaning.specs.declared.Next.TheVariants.{Perform};
-ghost use Rattle.rvv_meaning.specs.Words.{means};
-ghost use Rattle.rvv_meaning.specs.States.{Core, next, next_for, trap, set_reg, reg, is_built, is_illegal, core_after, executed_scalar, configured, elementwise, called, scalar_operand};
+ghost use Rattle.rvv_meaning.specs.Words.{means_vector};
+ghost use Rattle.rvv_meaning.specs.States.{Core, next, next_for, next_vector, trap, retired_to, with_effect, effect_at, is_illegal, core_after, executed_scalar, configured, elementwise, called, asked, scalar_operand};
+ghost use Rattle.rvv_meaning.specs.Calls.{first, named_call, asked_by, put_by};
 ghost use Rattle.rvv_meaning.specs.Images.{start_core};
+ghost use Rattle.guest_env.specs.Inputs.{Takes};
+ghost use Rattle.guest_env.specs.Outputs.{bytes_out, bytes_err, IsFaultOf};
+ghost use Rattle.guest_env.specs.Answers.{FailsReading, FailsWriting, IsWriting};
 ghost use Rattle.vec_exec.specs.Programs.{NamesRegisters, prog, is_engine};
-ghost use Rattle.machine.specs.Answers.{answer_of};
-ghost use Rattle.machine.specs.Fields.{ScalarFields, NextFits};
+ghost use Rattle.machine.specs.Answers.{answer_of, halt_of};
+ghost use Rattle.machine.specs.Fields.{NextFits};
 ghost use Rattle.machine.specs.Moments.{moment_after, moments};
 ghost use Rattle.machine.specs.Opening.{memory_of};
-ghost use Rattle.machine.specs.Views.{GoesBy, FaultsIn, IsWriting, IsFaultOf, gains_out, gains_err};
-ghost use Rattle.machine.specs.Carrying.{Carries, Fails};
+ghost use Rattle.machine.specs.Views.{GoesBy, FaultsIn, ReadsIn, gains_out, gains_err};
+ghost use Rattle.machine.specs.Carrying.{Carries, Fails, Stays};
 
 use crate::answers::{DeviceFault, Step};
-use crate::calls::write;
-use crate::words::decode;
+use crate::words::{decode_vector, is_vector_word};
 use cam_chain::{Chain, Counts};
 use cape_io::{Sink, Source};
 use elf_load::Loaded;
+use guest_env::{EnvFault, EnvFlow, call};
 use guest_mem::{Mem, Trap};
 use micro_ir::{Control, MicroBuf, replay};
-use rvv_meaning::{Csrs, Instr, Meaning, Mode, Next, Op, Policy, VInstr, VOp};
+use rv32_core::{Regs, exec};
+use rv32_decode::{Instr, decode};
+use rvv_meaning::{Csrs, Flow, Meaning, Mode, Next, Policy, VInstr, VOp};
 use std::alloc::{AllocError as NoMemory, Global};
 use std::marker::Model;
 use vec_exec::{engine, plan};
 
 // The stack pointer and its place at the start.
-const STACK_POINTER: usize = 2;
+const STACK_POINTER: u8 = 2;
 
 const STACK_TOP: u32 = 0x7fff_ffc0;
 
@@ -47,18 +55,8 @@ const VILL: u32 = 0x8000_0000;
 
 const SETTING: u32 = 0xd0;
 
-// The registers of a call: its number, and its arguments, of which the first takes the answer.
-const CALL_NUMBER: usize = 17;
-
-const CALL_FIRST: usize = 10;
-
-const CALL_ADDRESS: usize = 11;
-
-const CALL_COUNT: usize = 12;
-
-const CALL_EXIT: u32 = 93;
-
-const CALL_WRITE: u32 = 64;
+// The bytes of a word.
+const WORD_BYTES: u32 = 4;
 
 // The causes of traps: a fetch without permission, and an illegal word (RISC-V privileged specification, mcause).
 const FETCH_FAULT: u8 = 1;
@@ -68,7 +66,7 @@ const ILLEGAL_WORD: u8 = 2;
 /// A machine with its guest's memory, its slices and the program of its last step. After `new` no call takes memory.
 #[derive(Drop)]
 pub struct Machine {
-    regs: [u32; 32],
+    regs: Regs,
     pc: u32,
     csrs: Csrs,
     mem: Mem,
@@ -97,7 +95,12 @@ impl Model for Machine {
       live = m.live;
     } };
 
+    ghost use Rattle.std.specs.Prelude.{IsTrue};
+    ghost use Rattle.rvv_meaning.specs.Scalar.ControlRegisters.{is_legal_vlen};
+
     ghost invariant = { λ m. record {
+      legal : IsTrue (is_legal_vlen m.csrs.vlen);
+      rounding : m.csrs.vxrm ≤ 3;
       vlen : m.csrs.vlen ≡ 32 * m.chain.columns;
       room : length m.buf.ops + m.buf.spare ≡ 262144;
       retired : m.csrs.retired ≤ 2 ^ 63;
@@ -136,8 +139,8 @@ impl Machine {
         )?;
         let chain = Chain::new(alloc, vlen / COLUMN_BITS)?;
         let buf = MicroBuf::new(alloc, PROGRAM_LIMIT)?;
-        let mut regs = [0u32; 32];
-        regs[STACK_POINTER] = STACK_TOP;
+        let mut regs = Regs::new();
+        regs.set(STACK_POINTER, STACK_TOP);
         let csrs = Csrs {
             vstart: 0,
             vxrm: 0,
@@ -180,6 +183,37 @@ impl Machine {
         self.pc
     }
 
+    /// The registers x0 to x31.
+    pub fn regs(&self) -> &Regs
+        ensures { result.now ≡ self.now.core.regs }
+    {
+        &self.regs
+    }
+
+    /// The control registers.
+    pub fn csrs(&self) -> &Csrs
+        ensures { result.now ≡ self.now.core.csrs }
+    {
+        &self.csrs
+    }
+
+    /// The guest's memory.
+    pub fn mem(&self) -> &Mem
+        ensures { result.now ≡ self.now.core.mem }
+    {
+        &self.mem
+    }
+
+    /// How the machine ended, or `None` where it still runs.
+    pub fn halted(&self) -> Option<Step>
+        ensures { result ≡ halt_of self.now.core.mode }
+    {
+        match self.mode {
+            Mode::Running => None,
+            _ => Some(self.answer()),
+        }
+    }
+
     /// The searches, updates and passes so far. Each is at most 2^23 times the retired count.
     pub fn counts(&self) -> Counts
         ensures value { result ≡ self.now.chain.counts }
@@ -214,32 +248,14 @@ impl Machine {
         (word >> (8 * (j % 4)) & 0xff) as u8
     }
 
-    // Whether an instruction is built.
-    fn is_built(&self, meaning: &Meaning) -> bool
-        ensures { result ≡ is_built meaning.now self.now.core }
+    // Whether a vector instruction is illegal: one on elements, where no setting is in force.
+    fn is_illegal(&self, op: VOp) -> bool
+        ensures { result ≡ is_illegal op self.now.core }
     {
-        let number = self.regs[CALL_NUMBER];
-        match meaning {
-            Meaning::Scalar(i) => match i.op {
-                Op::Addi => true,
-                Op::Lui => true,
-                Op::Ecall => number == CALL_EXIT || number == CALL_WRITE,
-            },
-            Meaning::Vector(_) => true,
-        }
-    }
-
-    // Whether an instruction is illegal: one on elements, where no setting is in force.
-    fn is_illegal(&self, meaning: &Meaning) -> bool
-        ensures { result ≡ is_illegal meaning.now self.now.core }
-    {
-        match meaning {
-            Meaning::Scalar(_) => false,
-            Meaning::Vector(i) => match i.op {
-                VOp::Vsetivli => false,
-                VOp::VxorVv => self.csrs.vtype == VILL,
-                VOp::VmvVx => self.csrs.vtype == VILL,
-            },
+        match op {
+            VOp::Vsetivli => false,
+            VOp::VxorVv => self.csrs.vtype == VILL,
+            VOp::VmvVx => self.csrs.vtype == VILL,
         }
     }
 
@@ -254,22 +270,32 @@ impl Machine {
         })
     }
 
-    // What comes of a word at pc.
-    fn next_for(&self, word: u32) -> Next
-        ensures is { result ≡ next_for self.now.core word (means word) }
+    // What comes of a word at pc that is no scalar instruction.
+    fn next_vector(&self, word: u32) -> Next
+        ensures is { result ≡ next_vector self.now.core word (means_vector word) }
         ensures range { NextFits result }
     {
-        let meaning = match decode(word) {
-            None => return Next::Stop(Mode::Unbuilt),
-            Some(meaning) => meaning,
+        let Some(i) = decode_vector(word) else {
+            if is_vector_word(word) {
+                return Next::Stop(Mode::Unbuilt);
+            }
+            return Next::Stop(self.trap(ILLEGAL_WORD, word));
         };
-        if !self.is_built(&meaning) {
-            return Next::Stop(Mode::Unbuilt);
-        }
-        if self.is_illegal(&meaning) {
+        if self.is_illegal(i.op) {
             return Next::Stop(self.trap(ILLEGAL_WORD, word));
         }
-        Next::Perform(meaning)
+        Next::Perform(Meaning::Vector(i))
+    }
+
+    // What comes of a word at pc.
+    fn next_for(&self, word: u32) -> Next
+        ensures is { result ≡ next_for self.now.core word }
+        ensures range { NextFits result }
+    {
+        match decode(word) {
+            Some(i) => Next::Perform(Meaning::Scalar(i)),
+            None => self.next_vector(word),
+        }
     }
 
     // What comes at pc.
@@ -310,31 +336,20 @@ impl Machine {
         self.mode = mode;
     }
 
-    // A register gets a number, and the instruction retires.
-    fn set_reg(&mut self, r: u8, value: u32)
-        requires register { r < 32 }
-        requires count { self.old.core.csrs.retired < 2 ^ 63 }
-        ensures { self.new ≡ record self.old { core = set_reg r value self.old.core } }
+    // The instruction retires, and the next one is at a place.
+    fn retire_to(&mut self, target: u32)
+        requires { self.old.core.csrs.retired < 2 ^ 63 }
+        ensures { self.new ≡ record self.old { core = retired_to target self.old.core } }
     {
-        if r != 0 {
-            self.regs[r as usize] = value;
-        }
-        self.pc = self.pc.wrapping_add(4);
+        self.pc = target;
         self.csrs.retired += 1;
     }
 
-    // What a scalar instruction that is no call does to the machine.
-    fn exec(&mut self, i: &Instr)
-        requires fields { ScalarFields i.now }
-        requires plain { i.now.op ≡ Op.Ecall → ⊥ }
-        requires count { self.old.core.csrs.retired < 2 ^ 63 }
-        ensures { self.new ≡ record self.old { core = executed_scalar i.now.op i.now self.old.core } }
+    // The place behind the word at pc.
+    fn behind(&self) -> u32
+        ensures { result ≡ low 32 (self.now.core.pc + 4) }
     {
-        match i.op {
-            Op::Addi => self.set_reg(i.rd, self.regs[i.rs1 as usize].wrapping_add(i.imm)),
-            Op::Lui => self.set_reg(i.rd, i.imm),
-            Op::Ecall => unreachable!(),
-        }
+        self.pc.wrapping_add(WORD_BYTES)
     }
 
     // The setting e32, m1, ta, ma with a new length.
@@ -347,7 +362,8 @@ impl Machine {
         self.csrs.vstart = 0;
         self.csrs.vl = length;
         self.csrs.vtype = SETTING;
-        self.set_reg(i.vd, length);
+        self.regs.set(i.vd, length);
+        self.retire_to(self.behind());
     }
 
     // The scalar that an instruction takes.
@@ -358,7 +374,7 @@ impl Machine {
         match i.op {
             VOp::Vsetivli => 0,
             VOp::VxorVv => 0,
-            VOp::VmvVx => self.regs[i.vs1 as usize],
+            VOp::VmvVx => self.regs.get(i.vs1),
         }
     }
 
@@ -382,64 +398,120 @@ impl Machine {
         };
         replay(&mut self.chain, &mut control, &self.buf, first);
         self.csrs.vstart = 0;
-        self.pc = self.pc.wrapping_add(4);
+        self.pc = self.pc.wrapping_add(WORD_BYTES);
         self.csrs.retired += 1;
     }
 
-    // A call of the guest: the exit or a write.
-    fn call<O: Sink, E: Sink>(
+    // What a scalar instruction does to the registers, the control registers and the memory, and where the program goes
+    // on.
+    fn execute(&mut self, i: &Instr) -> Flow
+        requires { IsSpelled i.now }
+        ensures flow { result ≡ (effect_at i.now self.old.core).flow }
+        ensures core { self.new ≡ record self.old { core = with_effect (effect_at i.now self.old.core) self.old.core } }
+        ensures count { self.new.core.csrs.retired ≡ self.old.core.csrs.retired }
+        ensures length { self.new.core.csrs.vlen ≡ self.old.core.csrs.vlen }
+    {
+        exec(i, self.pc, &mut self.regs, &mut self.csrs, &mut self.mem)
+    }
+
+    // Carries out the call that the registers ask for.
+    fn call<S: Source, O: Sink, E: Sink>(
         &mut self,
-        i: &Instr,
+        input: &mut S,
         out: &mut O,
         err: &mut E,
         merged: bool,
     ) -> Result<(), DeviceFault>
-        requires there { next self.old.core ≡ Perform (Scalar i.now) }
-        requires call { i.now.op ≡ Op.Ecall }
         requires count { self.old.core.csrs.retired < 2 ^ 63 }
-        ensures core { OnOk result (self.new ≡ record self.old { core = called self.old.core }) }
-        ensures gained_out { OnOk result (Appends (O.held out.old) (O.held out.new) (gains_out merged self.old.core)) }
-        ensures gained_err { OnOk result (Appends (E.held err.old) (E.held err.new) (gains_err merged self.old.core)) }
-        ensures kept { OnErr result (self.new ≡ self.old) }
-        ensures front_out { OnErr result (PutsFront (O.held out.old) (O.held out.new) (gains_out merged self.old.core)) }
-        ensures front_err { OnErr result (PutsFront (E.held err.old) (E.held err.new) (gains_err merged self.old.core)) }
-        ensures cause { OnErr result (IsFaultOf merged (reg self.old.core 10) (O.faults out.old) (O.faults out.new) (E.faults err.old) (E.faults err.new)) }
-        ensures no_read { IsErrOf result DeviceFault.ReadFault → ⊥ }
-        ensures at { OnErr result (IsWriting self.old.core) }
+        ensures called { OnOk result ((taken : List ℕ) × Takes (asked_by (named_call self.old.core.regs) self.old.core.regs self.old.core.mem) (S.left input.old) (S.left input.new) taken
+            × (self.new ≡ record self.old { core = called self.old.core taken })) }
+        ensures count { OnOk result (self.new.core.csrs.retired ≤ self.old.core.csrs.retired + 1) }
+        ensures length { self.new.core.csrs.vlen ≡ self.old.core.csrs.vlen }
+        ensures gained_out { OnOk result (Appends (O.held out.old) (O.held out.new) (bytes_out merged (first self.old.core.regs) (put_by (named_call self.old.core.regs) self.old.core.regs self.old.core.mem))) }
+        ensures gained_err { OnOk result (Appends (E.held err.old) (E.held err.new) (bytes_err merged (first self.old.core.regs) (put_by (named_call self.old.core.regs) self.old.core.regs self.old.core.mem))) }
+        ensures stays { OnErr result (self.new ≡ record self.old { core = record self.old.core { mem = self.new.core.mem } }) }
+        ensures front_out { OnErr result (PutsFront (O.held out.old) (O.held out.new) (bytes_out merged (first self.old.core.regs) (put_by (named_call self.old.core.regs) self.old.core.regs self.old.core.mem))) }
+        ensures front_err { OnErr result (PutsFront (E.held err.old) (E.held err.new) (bytes_err merged (first self.old.core.regs) (put_by (named_call self.old.core.regs) self.old.core.regs self.old.core.mem))) }
+        ensures read_fault { IsErrOf result DeviceFault.ReadFault → FailsReading self.old.core.regs self.old.core.mem self.new.core.mem (S.left input.old) (S.left input.new) (S.faults input.old) (S.faults input.new) }
+        ensures write_fault { IsErrOf result DeviceFault.WriteFault → FailsWriting merged self.old.core.regs self.old.core.mem self.new.core.mem (O.faults out.old) (O.faults out.new) (E.faults err.old) (E.faults err.new) }
+        ensures later_input { S.faults input.old ≤ S.faults input.new }
         ensures later_out { O.faults out.old ≤ O.faults out.new }
         ensures later_err { E.faults err.old ≤ E.faults err.new }
     {
-        if self.regs[CALL_NUMBER] == CALL_EXIT {
-            let code = (self.regs[CALL_FIRST] & 0xff) as u8;
-            self.set_reg(0, 0);
-            self.mode = Mode::Exited(code);
-            return Ok(());
+        match call(&mut self.regs, &mut self.mem, input, out, err, merged) {
+            Ok(EnvFlow::Back) => {
+                self.retire_to(self.behind());
+                Ok(())
+            }
+            Ok(EnvFlow::Exit(code)) => {
+                self.retire_to(self.behind());
+                self.mode = Mode::Exited(code);
+                Ok(())
+            }
+            Err(EnvFault::ReadFault) => Err(DeviceFault::ReadFault),
+            Err(EnvFault::WriteFault) => Err(DeviceFault::WriteFault),
         }
-        let descriptor = self.regs[CALL_FIRST];
-        let address = self.regs[CALL_ADDRESS];
-        let count = self.regs[CALL_COUNT];
-        let answer = write(&self.mem, descriptor, address, count, out, err, merged)?;
-        self.set_reg(CALL_FIRST as u8, answer);
-        Ok(())
+    }
+
+    // Carries out a scalar instruction.
+    fn perform<S: Source, O: Sink, E: Sink>(
+        &mut self,
+        i: &Instr,
+        input: &mut S,
+        out: &mut O,
+        err: &mut E,
+        merged: bool,
+    ) -> Result<(), DeviceFault>
+        requires spelled { IsSpelled i.now }
+        requires there { next self.old.core ≡ Perform (Scalar i.now) }
+        requires empty { self.old.last ≡ [] }
+        requires count { self.old.core.csrs.retired < 2 ^ 63 }
+        ensures carries { OnOk result ((taken : List ℕ) × Carries merged self.old self.new taken (S.left input.old) (S.left input.new) (O.held out.old) (O.held out.new) (E.held err.old) (E.held err.new)) }
+        ensures count { OnOk result (self.new.core.csrs.retired ≤ self.old.core.csrs.retired + 1) }
+        ensures length { self.new.core.csrs.vlen ≡ self.old.core.csrs.vlen }
+        ensures stays { OnErr result (self.new ≡ record self.old { core = record self.old.core { mem = self.new.core.mem } }) }
+        ensures fails { OnErr result (Fails merged self.old (O.held out.old) (O.held out.new) (E.held err.old) (E.held err.new)) }
+        ensures read_fault { IsErrOf result DeviceFault.ReadFault → FailsReading self.old.core.regs self.old.core.mem self.new.core.mem (S.left input.old) (S.left input.new) (S.faults input.old) (S.faults input.new) }
+        ensures write_fault { IsErrOf result DeviceFault.WriteFault → FailsWriting merged self.old.core.regs self.old.core.mem self.new.core.mem (O.faults out.old) (O.faults out.new) (E.faults err.old) (E.faults err.new) }
+        ensures later_input { S.faults input.old ≤ S.faults input.new }
+        ensures later_out { O.faults out.old ≤ O.faults out.new }
+        ensures later_err { E.faults err.old ≤ E.faults err.new }
+    {
+        match self.execute(i) {
+            Flow::Next => {
+                self.retire_to(self.behind());
+                Ok(())
+            }
+            Flow::Jump(target) => {
+                self.retire_to(target);
+                Ok(())
+            }
+            Flow::Trap(trap) => {
+                self.stop(Mode::Trapped(trap));
+                Ok(())
+            }
+            Flow::Call => self.call(input, out, err, merged),
+        }
     }
 
     // Carries out the instruction at pc.
-    fn carry_out<O: Sink, E: Sink>(
+    fn carry_out<S: Source, O: Sink, E: Sink>(
         &mut self,
+        input: &mut S,
         out: &mut O,
         err: &mut E,
         merged: bool,
     ) -> Result<(), DeviceFault>
         requires empty { self.old.last ≡ [] }
         requires count { self.old.core.csrs.retired < 2 ^ 63 }
-        ensures carries { OnOk result (Carries merged self.old self.new (O.held out.old) (O.held out.new) (E.held err.old) (E.held err.new)) }
+        ensures carries { OnOk result ((taken : List ℕ) × Carries merged self.old self.new taken (S.left input.old) (S.left input.new) (O.held out.old) (O.held out.new) (E.held err.old) (E.held err.new)) }
         ensures count { OnOk result (self.new.core.csrs.retired ≤ self.old.core.csrs.retired + 1) }
         ensures length { self.new.core.csrs.vlen ≡ self.old.core.csrs.vlen }
-        ensures kept { OnErr result (self.new ≡ self.old) }
+        ensures stays { OnErr result (self.new ≡ record self.old { core = record self.old.core { mem = self.new.core.mem } }) }
         ensures fails { OnErr result (Fails merged self.old (O.held out.old) (O.held out.new) (E.held err.old) (E.held err.new)) }
-        ensures cause { OnErr result (IsFaultOf merged (reg self.old.core 10) (O.faults out.old) (O.faults out.new) (E.faults err.old) (E.faults err.new)) }
-        ensures no_read { IsErrOf result DeviceFault.ReadFault → ⊥ }
-        ensures at { OnErr result (IsWriting self.old.core) }
+        ensures read_fault { IsErrOf result DeviceFault.ReadFault → FailsReading self.old.core.regs self.old.core.mem self.new.core.mem (S.left input.old) (S.left input.new) (S.faults input.old) (S.faults input.new) }
+        ensures write_fault { IsErrOf result DeviceFault.WriteFault → FailsWriting merged self.old.core.regs self.old.core.mem self.new.core.mem (O.faults out.old) (O.faults out.new) (E.faults err.old) (E.faults err.new) }
+        ensures later_input { S.faults input.old ≤ S.faults input.new }
         ensures later_out { O.faults out.old ≤ O.faults out.new }
         ensures later_err { E.faults err.old ≤ E.faults err.new }
     {
@@ -448,13 +520,7 @@ impl Machine {
                 self.stop(mode);
                 Ok(())
             }
-            Next::Perform(Meaning::Scalar(i)) => match i.op {
-                Op::Ecall => self.call(&i, out, err, merged),
-                Op::Addi | Op::Lui => {
-                    self.exec(&i);
-                    Ok(())
-                }
-            },
+            Next::Perform(Meaning::Scalar(i)) => self.perform(&i, input, out, err, merged),
             Next::Perform(Meaning::Vector(i)) => {
                 if engine(&i) {
                     self.run_program(&i);
@@ -468,7 +534,8 @@ impl Machine {
 
     /// One step. `merged` tells where the guest's bytes go: the output to `out` and the error output to `err`, or both
     /// to `err` in their order. The answer tells the mode. After a device fault `live` is false, nothing retired and
-    /// all else but the last program is as before; the sink has gained a front of the bytes of the call.
+    /// all else but the memory and the last program is as before: the bytes that a read took stand in memory, or the
+    /// sink has gained a front of the bytes of the call.
     pub fn step<S: Source, O: Sink, E: Sink>(
         &mut self,
         input: &mut S,
@@ -481,7 +548,7 @@ impl Machine {
         requires count { self.old.core.csrs.retired < 2 ^ 63 }
 
         // What the machine becomes, whatever the devices tell.
-        ensures carries { OnOk result (Carries merged self.old self.new (O.held out.old) (O.held out.new) (E.held err.old) (E.held err.new)) }
+        ensures carries { OnOk result ((taken : List ℕ) × Carries merged self.old self.new taken (S.left input.old) (S.left input.new) (O.held out.old) (O.held out.new) (E.held err.old) (E.held err.new)) }
         ensures live { OnOk result (self.new.live ≡ true) }
         ensures count { OnOk result (self.new.core.csrs.retired ≤ self.old.core.csrs.retired + 1) }
         ensures length { self.new.core.csrs.vlen ≡ self.old.core.csrs.vlen }
@@ -491,17 +558,16 @@ impl Machine {
         ensures goes { OnOk result (GoesBy moment_after merged self.old self.new (S.left input.old) (S.left input.new) (O.held out.old) (O.held out.new) (E.held err.old) (E.held err.new)) }
 
         // What stands after a device fault, and its cause.
-        ensures kept { OnErr result (self.new ≡ record self.old { last = []; live = false }) }
+        ensures stays { OnErr result (self.new ≡ record self.old { core = record self.old.core { mem = self.new.core.mem }; last = []; live = false }) }
         ensures fronts { OnErr result (FaultsIn moment_after merged self.old (S.left input.old) (O.held out.old) (O.held out.new) (E.held err.old) (E.held err.new)) }
-        ensures cause { OnErr result (IsFaultOf merged (reg self.old.core 10) (O.faults out.old) (O.faults out.new) (E.faults err.old) (E.faults err.new)) }
-        ensures no_read { IsErrOf result DeviceFault.ReadFault → ⊥ }
-        ensures at { OnErr result (IsWriting self.old.core) }
+        ensures read_fault { IsErrOf result DeviceFault.ReadFault → FailsReading self.old.core.regs self.old.core.mem self.new.core.mem (S.left input.old) (S.left input.new) (S.faults input.old) (S.faults input.new) }
+        ensures write_fault { IsErrOf result DeviceFault.WriteFault → FailsWriting merged self.old.core.regs self.old.core.mem self.new.core.mem (O.faults out.old) (O.faults out.new) (E.faults err.old) (E.faults err.new) }
         ensures later_input { S.faults input.old ≤ S.faults input.new }
         ensures later_out { O.faults out.old ≤ O.faults out.new }
         ensures later_err { E.faults err.old ≤ E.faults err.new }
     {
         self.forget();
-        match self.carry_out(out, err, merged) {
+        match self.carry_out(input, out, err, merged) {
             Ok(()) => Ok(self.answer()),
             Err(fault) => {
                 self.live = false;
@@ -510,7 +576,8 @@ impl Machine {
         }
     }
 
-    /// Up to n steps, as long as the machine runs: `Ran` where n instructions retired and it still runs.
+    /// Up to n steps, as long as the machine runs: `Ran` where n instructions retired and it still runs. After a device
+    /// fault the machine stands at the call that failed.
     pub fn run<S: Source, O: Sink, E: Sink>(
         &mut self,
         n: u64,
@@ -528,10 +595,13 @@ impl Machine {
         ensures count { OnOk result (self.new.core.csrs.retired ≤ self.old.core.csrs.retired + n) }
         ensures length { self.new.core.csrs.vlen ≡ self.old.core.csrs.vlen }
         ensures answer { IfOk result (λ answer. answer ≡ answer_of self.new.core.mode) }
+
+        // What stands after a device fault, and its cause.
         ensures fronts { OnErr result (FaultsIn (λ m. moments m n) merged self.old (S.left input.old) (O.held out.old) (O.held out.new) (E.held err.old) (E.held err.new)) }
-        ensures cause { OnErr result (IsFaultOf merged (reg self.new.core 10) (O.faults out.old) (O.faults out.new) (E.faults err.old) (E.faults err.new)) }
-        ensures at { OnErr result (IsWriting self.new.core) }
-        ensures no_read { IsErrOf result DeviceFault.ReadFault → ⊥ }
+        ensures read_cause { IsErrOf result DeviceFault.ReadFault → Rose (S.faults input.old) (S.faults input.new) }
+        ensures reads { IsErrOf result DeviceFault.ReadFault → ReadsIn n merged self.old (S.left input.old) (O.held out.old) (E.held err.old) }
+        ensures write_cause { IsErrOf result DeviceFault.WriteFault → IsFaultOf merged (first self.new.core.regs) (O.faults out.old) (O.faults out.new) (E.faults err.old) (E.faults err.new) }
+        ensures write_at { IsErrOf result DeviceFault.WriteFault → IsWriting self.new.core.regs self.new.core.mem }
         ensures later_input { S.faults input.old ≤ S.faults input.new }
         ensures later_out { O.faults out.old ≤ O.faults out.new }
         ensures later_err { E.faults err.old ≤ E.faults err.new }

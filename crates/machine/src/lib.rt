@@ -3,7 +3,6 @@
 #![tactic(auto)]
 
 mod answers;
-mod calls;
 mod core_state;
 #[cfg(test)]
 mod tests;

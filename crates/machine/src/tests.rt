@@ -4,6 +4,7 @@ ghost use Rattle.std.specs.Prelude.{◌≡◌, ◌≤◌, IfOk};
 use crate::{Machine, Step};
 use cape_io::{MemSink, MemSource};
 use elf_load::load;
+use guest_mem::Trap;
 use micro_ir::MicroOp;
 use rvv_meaning::Policy;
 use std::alloc::Global;
@@ -31,6 +32,16 @@ const WRITE_OVER_AN_END: [u32; 6] = [
     0x00100513, 0x000115b7, 0xfff58593, 0x00200613, 0x04000893, 0x00000073,
 ];
 
+// It asks for a byte of the input: addi x10, x0, 0; lui x11, 0x10; addi x12, x0, 1; addi x17, x0, 63; ecall; nop
+const READ: [u32; 6] = [
+    0x00000513, 0x000105b7, 0x00100613, 0x03f00893, 0x00000073, 0x00000013,
+];
+
+// It asks for a byte of the input at the top of its stack: addi x10, x0, 0; addi x11, x2, -4; and the rest as above.
+const READ_ON_THE_STACK: [u32; 6] = [
+    0x00000513, 0xffc10593, 0x00100613, 0x03f00893, 0x00000073, 0x00000013,
+];
+
 // A machine after some steps from the first of its words, its answer, and what its sinks hold.
 #[derive(Drop)]
 struct Ran {
@@ -40,7 +51,7 @@ struct Ran {
     err: Vec<u8>,
 }
 
-// Both sinks fail at the puts that are listed. There is no answer where one did.
+// The input fails at its first take, and both sinks at the puts that are listed. There is no answer where one did.
 fn run_of(
     alloc: Global,
     words: &[u32; 6],
@@ -57,7 +68,7 @@ fn run_of(
     }
     let loaded = load(alloc, &image).ok().ok_or("the image loads")?;
     let mut machine = Machine::new(alloc, loaded, 1024, Policy::Keep)?;
-    let mut input = MemSource::new(alloc, &[], 1, &[])?;
+    let mut input = MemSource::new(alloc, &[], 1, &[0])?;
     let mut out = MemSink::new(alloc, 10, fails)?;
     let mut err = MemSink::new(alloc, 10, fails)?;
     let answer = machine
@@ -181,12 +192,40 @@ fn a_put_that_fails_leaves_the_machine_dead(rt: HostRuntime) -> Result<(), Fail>
     Ok(())
 }
 
+// The trap retires nothing and stands at the word.
 #[test]
-fn a_write_goes_out_before_what_is_not_built(rt: HostRuntime) -> Result<(), Fail> {
+fn a_write_goes_out_before_an_illegal_word(rt: HostRuntime) -> Result<(), Fail> {
     let ran = run_of(rt.alloc(), &WRITE, 9, false, &[])?;
-    assert_eq!(rt; ran.answer, Some(Step::Unbuilt));
+    let trap = Trap {
+        cause: 2,
+        pc: 0x10068,
+        value: 0,
+    };
+    assert_eq!(rt; ran.answer, Some(Step::Trapped(trap)));
+    assert_eq!(rt; ran.machine.halted(), Some(Step::Trapped(trap)));
     assert_eq!(rt; ran.out.as_slice(), [0x7f, 0x45].as_slice());
     assert_eq!(rt; ran.machine.retired(), 5);
+    assert_eq!(rt; ran.machine.pc(), 0x10068);
+    Ok(())
+}
+
+// The image allows no write into its page, so that a read is refused: it takes nothing, and the guest goes on.
+#[test]
+fn a_refused_read_goes_on(rt: HostRuntime) -> Result<(), Fail> {
+    let ran = run_of(rt.alloc(), &READ, 6, false, &[])?;
+    assert_eq!(rt; ran.answer, Some(Step::Ran));
+    assert_eq!(rt; ran.machine.regs().get(10), 0xffff_fff2);
+    Ok(())
+}
+
+// On its stack it may read: the input fails, and the machine stands at the call.
+#[test]
+fn a_take_that_fails_leaves_the_machine_dead(rt: HostRuntime) -> Result<(), Fail> {
+    let ran = run_of(rt.alloc(), &READ_ON_THE_STACK, 9, false, &[])?;
+    assert!(rt; ran.answer.is_none());
+    assert!(rt; !ran.machine.live());
+    assert_eq!(rt; ran.machine.retired(), 4);
+    assert_eq!(rt; ran.machine.pc(), 0x10064);
     Ok(())
 }
 

@@ -1,64 +1,37 @@
-// Words to instructions.
-ghost use Rattle.std.specs.Prelude.{◌≡◌, ◌<◌, ◌/◌, ◌%◌, ◌^◌, IfSome};
-ghost use Rattle.rvv_meaning.specs.Words.{means, means_scalar, means_vector, look_up, vector_rows, signed12};
+// Vector words to instructions.
+ghost use Rattle.std.specs.Prelude.{◌≡◌, IfSome};
+ghost use Rattle.word_rows.specs.Field.{field as field_of};
+ghost use Rattle.word_rows.specs.Rows.{look_up};
+ghost use Rattle.rvv_meaning.specs.Words.{means_vector, vector_rows, is_vector_word as has_vector_opcode};
 ghost use Rattle.vec_exec.specs.Programs.{NamesRegisters};
-ghost use Rattle.machine.specs.Fields.{ScalarFields, FieldsFit};
+ghost use Rattle.std.specs.Prelude.{◌<◌};
 
-use rvv_meaning::{Instr, Meaning, Op, VInstr, VOp};
+use rvv_meaning::{VInstr, VOp};
 
-// Twelve bits with their sign, at 32 bits.
-fn signed(bits: u32) -> u32
-    requires { bits < 4096 }
-    ensures { result ≡ signed12 bits }
-{
-    if bits < 2048 {
-        bits
-    } else {
-        bits + 0xffff_f000
-    }
-}
+// The opcodes of the vector extension: arithmetic and configuration, loads, and stores.
+const OP_V: u32 = 0x57;
+
+const LOAD_FP: u32 = 0x07;
+
+const STORE_FP: u32 = 0x27;
+
+const OPCODE_MASK: u32 = 0x7f;
 
 // The field of five bits from a place on.
 fn field(word: u32, from: u32) -> u8
     requires { from < 28 }
-    ensures value { result ≡ word / 2 ^ from % 2 ^ 5 }
+    ensures value { result ≡ field_of from 5 word }
     ensures range { result < 32 }
 {
     (word >> from & 0x1f) as u8
 }
 
-// The scalar instruction of a word.
-fn decode_scalar(word: u32) -> Option<Instr>
-    ensures means { result ≡ means_scalar word }
-    ensures range { IfSome result ScalarFields }
+/// Whether a word has an opcode of the vector extension.
+pub(crate) fn is_vector_word(word: u32) -> bool
+    ensures { result ≡ has_vector_opcode word }
 {
-    let rd = field(word, 7);
-    let rs1 = field(word, 15);
-    if word & 0x707f == 0x13 {
-        return Some(Instr {
-            op: Op::Addi,
-            rd,
-            rs1,
-            imm: signed(word >> 20),
-        });
-    }
-    if word & 0x7f == 0x37 {
-        return Some(Instr {
-            op: Op::Lui,
-            rd,
-            rs1,
-            imm: word & 0xffff_f000,
-        });
-    }
-    if word == 0x73 {
-        return Some(Instr {
-            op: Op::Ecall,
-            rd,
-            rs1,
-            imm: 0,
-        });
-    }
-    None
+    let opcode = word & OPCODE_MASK;
+    opcode == OP_V || opcode == LOAD_FP || opcode == STORE_FP
 }
 
 // The name of the vector instruction of a word.
@@ -77,8 +50,8 @@ fn vector_name(word: u32) -> Option<VOp>
     None
 }
 
-// The vector instruction of a word.
-fn decode_vector(word: u32) -> Option<VInstr>
+/// The vector instruction of a word, of those that are built.
+pub(crate) fn decode_vector(word: u32) -> Option<VInstr>
     ensures means { result ≡ means_vector word }
     ensures range { IfSome result NamesRegisters }
 {
@@ -90,20 +63,5 @@ fn decode_vector(word: u32) -> Option<VInstr>
             vs1: field(word, 15),
             vs2: field(word, 20),
         }),
-    }
-}
-
-/// What a word means.
-#[tactic(auto, unfolding(rvv_meaning::specs::Words::means))]
-pub fn decode(word: u32) -> Option<Meaning>
-    ensures means { result ≡ means word }
-    ensures range { IfSome result FieldsFit }
-{
-    match decode_scalar(word) {
-        Some(i) => Some(Meaning::Scalar(i)),
-        None => match decode_vector(word) {
-            Some(i) => Some(Meaning::Vector(i)),
-            None => None,
-        },
     }
 }

@@ -12,10 +12,11 @@ use Rattle.rvv_meaning.specs.Scalar.{Effect, effect, value_effect, target_effect
 use Rattle.rvv_meaning.specs.Scalar.Transfers.{is_aligned}
 use Rattle.rvv_meaning.specs.Scalar.ControlRegisters.{entry_at, write, writable}
 
--- the length of a vector register stays as in `old`, and vxrm is at most 3
+-- the length of a vector register and the retired count stay as in `old`, and vxrm is at most 3
 pub record Keeps (old now : Csrs) : Type 0 where
   pub vlen : now.vlen ≡ old.vlen
   pub vxrm : now.vxrm ≤ 3
+  pub retired : now.retired ≡ old.retired
 
 -- what holds of each value of a table
 AllValues : {A : Type 0} → (A → Type 0) → List (ℕ × A) → Type 0
@@ -37,13 +38,13 @@ write-keeps : (number value : ℕ) (csrs : Csrs) → csrs.vxrm ≤ 3 → IfSome 
 unfolding AllValues write
 write-keeps number value csrs h =
     found-holds (Keeps csrs) (writable value csrs) number (
-      record { vlen = refl; vxrm = h },
+      record { vlen = refl; vxrm = h; retired = refl },
       (
-        record { vlen = refl; vxrm = h },
+        record { vlen = refl; vxrm = h; retired = refl },
         (
-          record { vlen = refl; vxrm = omega arith },
+          record { vlen = refl; vxrm = omega arith; retired = refl },
           (
-            record { vlen = refl; vxrm = omega arith },
+            record { vlen = refl; vxrm = omega arith; retired = refl },
             tt,
           ),
         ),
@@ -60,7 +61,7 @@ module _ (i : Instr) (pc : ℕ) (regs : List ℕ) (csrs : Csrs) (mem : Memory) (
   changed flow after now left k = k
 
   same : (flow : Flow) (after : List ℕ) (left : Memory) → KeptBy (effect flow after csrs left)
-  same flow after left = changed flow after csrs left record { vlen = refl; vxrm = h }
+  same flow after left = changed flow after csrs left record { vlen = refl; vxrm = h; retired = refl }
 
   either : (test : Bool) (x y : Effect) → KeptBy x → KeptBy y → KeptBy (cond test x y)
   either true x y p q = p
@@ -103,7 +104,7 @@ module _ (i : Instr) (pc : ℕ) (regs : List ℕ) (csrs : Csrs) (mem : Memory) (
 
   after : (writes : Bool) (new : ℕ) → IfSome (csrs_after i pc regs csrs mem writes new) (Keeps csrs)
   after true new = write-keeps i.imm new csrs h
-  after false new = record { vlen = refl; vxrm = h }
+  after false new = record { vlen = refl; vxrm = h; retired = refl }
 
   csr_at : (held : Option ℕ) (writes : Bool) (made : ℕ → ℕ → ℕ) (operand : ℕ) → KeptBy (change_effect i pc regs csrs mem held writes made operand)
   csr_at None writes made operand = same _ _ _

@@ -114,7 +114,7 @@ pub fn exec(i: &Instr, pc: u32, regs: &mut Regs, csrs: &mut Csrs, mem: &mut Mem)
     ensures regs { regs.new ≡ (executed i.now pc regs.old csrs.old mem.old).regs }
     ensures csrs { csrs.new ≡ (executed i.now pc regs.old csrs.old mem.old).csrs }
     ensures mem { mem.new ≡ (executed i.now pc regs.old csrs.old mem.old).mem }
-    ensures keeps { (csrs.new.vlen ≡ csrs.old.vlen) × (csrs.new.vxrm ≤ 3) }
+    ensures keeps { (csrs.new.vlen ≡ csrs.old.vlen) × (csrs.new.vxrm ≤ 3) × (csrs.new.retired ≡ csrs.old.retired) }
 {
     perform(i, pc, regs, csrs, mem)
 }

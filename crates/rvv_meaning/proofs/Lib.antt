@@ -1,1 +1,2 @@
--- Lemmas on the definitions.
+-- Lemmas on what programs mean.
+pub mod Calling

@@ -1,23 +1,27 @@
 -- The states of a machine, one step and a run.
-use Rattle.std.specs.Prelude.{◌==◌, ◌||◌, not, ℕ, zero, suc, ◌+◌, ◌/◌, ◌%◌, ◌^◌, Bool, true, false, List, [], ◌++◌, min, Option, Some, None, is_some, slice_index, slice_set, if◌then◌else◌}
+use Rattle.std.specs.Prelude.{◌==◌, ℕ, zero, suc, ◌+◌, ◌/◌, ◌^◌, Bool, true, false, List, [], ◌++◌, take, drop, min, Option, Some, None, is_some, slice_index, if◌then◌else◌}
 use Rattle.bit_laws.specs.Numbers.{low}
 use Rattle.guest_mem.specs.Pages.{Memory, first_bad, loaded}
-use Rattle.rvv_meaning.specs.declared.Op.{Op}
-use Rattle.rvv_meaning.specs.declared.Op.TheVariants.{Addi, Lui, Ecall}
+use Rattle.rv32_decode.specs.declared.instruction.Instr.{Instr}
+use Rattle.rv32_decode.specs.Rows.{means}
+use Rattle.rvv_meaning.specs.declared.Call.{Call}
+use Rattle.rvv_meaning.specs.declared.Call.TheVariants.{Read, Write, Exit, Break, Close, Seek, Unknown}
 use Rattle.rvv_meaning.specs.declared.VOp.{VOp}
 use Rattle.rvv_meaning.specs.declared.VOp.TheVariants.{Vsetivli, VxorVv, VmvVx}
-use Rattle.rvv_meaning.specs.declared.Instr.{Instr}
 use Rattle.rvv_meaning.specs.declared.VInstr.{VInstr}
-use Rattle.rvv_meaning.specs.declared.Meaning.{Meaning}
 use Rattle.rvv_meaning.specs.declared.Meaning.TheVariants.{Scalar, Vector}
 use Rattle.rvv_meaning.specs.declared.Mode.{Mode}
 use Rattle.rvv_meaning.specs.declared.Mode.TheVariants.{Running, Exited, Trapped, Unbuilt}
 use Rattle.rvv_meaning.specs.declared.Next.{Next}
 use Rattle.rvv_meaning.specs.declared.Next.TheVariants.{Stop, Perform}
+use Rattle.rvv_meaning.specs.declared.Flow.{Flow}
+use Rattle.rvv_meaning.specs.declared.Flow.TheVariants.{Next as GoesOn, Jump, Call as Calls, Trap as Traps}
 use Rattle.rvv_meaning.specs.declared.Csrs.{Csrs}
-use Rattle.rvv_meaning.specs.Words.{means}
+use Rattle.rvv_meaning.specs.Words.{means_vector, is_vector_word}
 use Rattle.rvv_meaning.specs.Vectors.{vectors_after}
-use Rattle.rvv_meaning.specs.Calls.{write_answer, write_bytes}
+use Rattle.rvv_meaning.specs.Scalar.{Effect, executed, illegal_instruction}
+use Rattle.rvv_meaning.specs.Scalar.Registers.{written}
+use Rattle.rvv_meaning.specs.Calls.{named_call, exit_code, asked_by, put_by, regs_after, memory_after}
 
 -- What a machine holds: the registers x0 to x31, the place of the next word, the control registers, the guest's memory,
 -- the bytes of each vector register, and the mode.
@@ -42,65 +46,44 @@ pub record State : Type 0 where
 abbrev pub reg : Core → ℕ → ℕ
 reg c r = slice_index c.regs r
 
--- the registers after a write; x0 stays 0
-abbrev pub written : List ℕ → ℕ → ℕ → List ℕ
-written regs r value = if r == 0 then regs else slice_set regs r value
+-- one more instruction retired, and the next one is at a place
+abbrev pub retired_to : ℕ → Core → Core
+retired_to target c = record c { pc = target; csrs = record c.csrs { retired = c.csrs.retired + 1 } }
 
--- the next instruction's place, and one more retired
+-- the next one is the word behind this one
 abbrev pub advanced : Core → Core
-advanced c = record c { pc = low 32 (c.pc + 4); csrs = record c.csrs { retired = c.csrs.retired + 1 } }
-
--- a register gets a number, and the instruction retires
-abbrev pub set_reg : ℕ → ℕ → Core → Core
-set_reg r value c = advanced (record c { regs = written c.regs r value })
-
--- the calls that are built: the exit, and a write
-abbrev pub is_exit : Core → Bool
-is_exit c = reg c 17 == 93
-
-abbrev pub is_write : Core → Bool
-is_write c = reg c 17 == 64
+advanced c = retired_to (low 32 (c.pc + 4)) c
 
 -- no setting of the vector unit is in force
 abbrev pub is_vill : Core → Bool
 is_vill c = c.csrs.vtype == 2 ^ 31
 
--- The table of what is built: whether the machine can carry out an instruction that the tables of words have.
-abbrev pub is_built_scalar : Op → Core → Bool
-is_built_scalar Addi c = true
-is_built_scalar Lui c = true
-is_built_scalar Ecall c = is_exit c || is_write c
-
-abbrev pub is_built : Meaning → Core → Bool
-is_built (Scalar i) c = is_built_scalar i.op c
-is_built (Vector i) c = true
-
 -- an instruction on elements is illegal where no setting is in force
-abbrev pub is_illegal_vector : VOp → Core → Bool
-is_illegal_vector Vsetivli c = false
-is_illegal_vector VxorVv c = is_vill c
-is_illegal_vector VmvVx c = is_vill c
-
-abbrev pub is_illegal : Meaning → Core → Bool
-is_illegal (Scalar i) c = false
-is_illegal (Vector i) c = is_illegal_vector i.op c
+abbrev pub is_illegal : VOp → Core → Bool
+is_illegal Vsetivli c = false
+is_illegal VxorVv c = is_vill c
+is_illegal VmvVx c = is_vill c
 
 -- a trap at pc
 abbrev pub trap : ℕ → ℕ → Core → Mode
 trap cause value c = Trapped record { cause = cause; pc = c.pc; value = value }
 
--- the causes of traps: a fetch without permission, and an illegal word
+-- the cause of the trap of a fetch without permission
 abbrev pub fetch_fault : ℕ
 fetch_fault = 1
 
-abbrev pub illegal_word : ℕ
-illegal_word = 2
+-- what comes of a word that is no scalar instruction, and means this vector instruction or none that is built
+abbrev pub next_vector : Core → ℕ → Option VInstr → Next
+next_vector c word None = if is_vector_word word then Stop Unbuilt else Stop (trap illegal_instruction word c)
+next_vector c word (Some v) = if is_illegal v.op c then Stop (trap illegal_instruction word c) else Perform (Vector v)
 
--- what comes of a word that means this
-abbrev pub next_for : Core → ℕ → Option Meaning → Next
-next_for c word None = Stop Unbuilt
-next_for c word (Some m) =
-    if not (is_built m c) then Stop Unbuilt else if is_illegal m c then Stop (trap illegal_word word c) else Perform m
+-- what comes of a word that means this scalar instruction or none
+abbrev pub next_scalar : Core → ℕ → Option Instr → Next
+next_scalar c word None = next_vector c word (means_vector word)
+next_scalar c word (Some i) = Perform (Scalar i)
+
+abbrev pub next_for : Core → ℕ → Next
+next_for c word = next_scalar c word (means word)
 
 -- the permission to execute, and the bytes of a word
 abbrev pub execute : ℕ
@@ -115,17 +98,42 @@ unfoldable pub next : Core → Next
 next c =
     if is_some (first_bad c.mem.pages execute c.pc word_size)
     then Stop (trap fetch_fault c.pc c)
-    else next_for c (loaded c.mem.pages c.pc word_size) (means (loaded c.mem.pages c.pc word_size))
+    else next_for c (loaded c.mem.pages c.pc word_size)
 
--- what a call leaves: the exit ends the run with the low byte of x10, and a write answers in x10
-abbrev pub called : Core → Core
-called c = if is_exit c then record (advanced c) { mode = Exited (reg c 10 % 2 ^ 8) } else set_reg 10 (write_answer c.mem.pages (reg c 10) (reg c 11) (reg c 12)) c
+-- the effect of a scalar instruction on the machine, and the machine with it
+abbrev pub effect_at : Instr → Core → Effect
+effect_at i c = executed i c.pc c.regs c.csrs c.mem
 
--- what a scalar instruction leaves
-abbrev pub executed_scalar : Op → Instr → Core → Core
-executed_scalar Addi i c = set_reg i.rd (low 32 (reg c i.rs1 + i.imm)) c
-executed_scalar Lui i c = set_reg i.rd i.imm c
-executed_scalar Ecall i c = called c
+abbrev pub with_effect : Effect → Core → Core
+with_effect e c = record c { regs = e.regs; csrs = e.csrs; mem = e.mem }
+
+-- the mode after a call: an exit ends the run
+abbrev pub mode_by : Call → List ℕ → Mode → Mode
+mode_by Exit regs mode = Exited (exit_code regs)
+mode_by Read regs mode = mode
+mode_by Write regs mode = mode
+mode_by Break regs mode = mode
+mode_by Close regs mode = mode
+mode_by Seek regs mode = mode
+mode_by Unknown regs mode = mode
+
+-- what a call leaves that took these bytes of the input; it retires, also where it is the exit
+abbrev pub called_as : Call → Core → List ℕ → Core
+called_as call c taken =
+    advanced (record c { regs = regs_after call c.regs c.mem taken; mem = memory_after call c.regs c.mem taken; mode = mode_by call c.regs c.mode })
+
+unfoldable pub called : Core → List ℕ → Core
+called c taken = called_as (named_call c.regs) c taken
+
+-- where the machine goes on after a scalar instruction; a trap sets the mode and retires nothing
+abbrev pub after_flow : Flow → Core → List ℕ → Core
+after_flow GoesOn c taken = advanced c
+after_flow (Jump target) c taken = retired_to target c
+after_flow Calls c taken = called c taken
+after_flow (Traps t) c taken = record c { mode = Trapped t }
+
+abbrev pub executed_scalar : Instr → Core → List ℕ → Core
+executed_scalar i c taken = after_flow (effect_at i c).flow (with_effect (effect_at i c) c) taken
 
 -- the length that a setting of 32-bit elements gets: what is asked for, or what a register holds
 abbrev pub new_length : ℕ → Core → ℕ
@@ -157,43 +165,60 @@ executed_vector Vsetivli i c = configured i c
 executed_vector VxorVv i c = elementwise i c
 executed_vector VmvVx i c = elementwise i c
 
--- what a step leaves in the machine: a stop changes the mode alone
-abbrev pub carried_out : Next → Core → Core
-carried_out (Stop mode) c = record c { mode = mode }
-carried_out (Perform (Scalar i)) c = executed_scalar i.op i c
-carried_out (Perform (Vector i)) c = executed_vector i.op i c
+-- what a step leaves in the machine that took these bytes of the input: a stop changes the mode alone
+abbrev pub carried_out : Next → Core → List ℕ → Core
+carried_out (Stop mode) c taken = record c { mode = mode }
+carried_out (Perform (Scalar i)) c taken = executed_scalar i c taken
+carried_out (Perform (Vector i)) c taken = executed_vector i.op i c
 
--- what the machine holds after a step
-unfoldable pub core_after : Core → Core
-core_after c = carried_out (next c) c
+-- what the machine holds after a step that took these bytes of the input
+unfoldable pub core_after : Core → List ℕ → Core
+core_after c taken = carried_out (next c) c taken
 
--- the bytes that a call puts: a call that is not the exit is a write
-abbrev pub puts_call : Core → List ℕ
-puts_call c = if is_exit c then [] else write_bytes c.mem.pages (reg c 10) (reg c 11) (reg c 12)
+-- the call that a scalar instruction makes, which is ecall, or none
+abbrev pub call_by : Flow → List ℕ → Option Call
+call_by GoesOn regs = None
+call_by (Jump target) regs = None
+call_by Calls regs = Some (named_call regs)
+call_by (Traps t) regs = None
 
--- the bytes that an instruction puts
-abbrev pub puts_scalar : Op → Core → List ℕ
-puts_scalar Addi c = []
-puts_scalar Lui c = []
-puts_scalar Ecall c = puts_call c
+-- the call that comes at pc
+abbrev pub call_of : Next → Core → Option Call
+call_of (Stop mode) c = None
+call_of (Perform (Scalar i)) c = call_by (effect_at i c).flow c.regs
+call_of (Perform (Vector i)) c = None
 
-abbrev pub puts_by : Next → Core → List ℕ
-puts_by (Stop mode) c = []
-puts_by (Perform (Scalar i)) c = puts_scalar i.op c
-puts_by (Perform (Vector i)) c = []
+unfoldable pub call_at : Core → Option Call
+call_at c = call_of (next c) c
 
--- the bytes that a step puts, and those of them that go to a descriptor
+-- how many bytes a step asks of the input, and the bytes that it puts
+abbrev pub asks : Option Call → Core → ℕ
+asks None c = 0
+asks (Some call) c = asked_by call c.regs c.mem
+
+abbrev pub puts_by : Option Call → Core → List ℕ
+puts_by None c = []
+puts_by (Some call) c = put_by call c.regs c.mem
+
+unfoldable pub asked : Core → ℕ
+asked c = asks (call_at c) c
+
 unfoldable pub puts : Core → List ℕ
-puts c = puts_by (next c) c
+puts c = puts_by (call_at c) c
 
+-- the bytes that a step takes of an input: as many as it asks for, or all that is left
+abbrev pub taken_at : Core → List ℕ → List ℕ
+taken_at c input = take (asked c) input
+
+-- the bytes of a step that go to a descriptor
 abbrev pub put_on : ℕ → Core → List ℕ
 put_on descriptor c = if reg c 10 == descriptor then puts c else []
 
 -- one step
 unfoldable pub step : State → State
 step s = record {
-  core = core_after s.core;
-  input = s.input;
+  core = core_after s.core (taken_at s.core s.input);
+  input = drop (asked s.core) s.input;
   output = s.output ++ put_on 1 s.core;
   errors = s.errors ++ put_on 2 s.core;
   joint = s.joint ++ puts s.core;

@@ -3,23 +3,7 @@
 #![tactic(auto)]
 
 use guest_mem::Trap;
-
-/// The scalar instructions by their names (RISC-V unprivileged specification, RV32I).
-#[derive(Clone, Copy, Debug, PartialEq, Eq)]
-pub enum Op {
-    Addi,
-    Lui,
-    Ecall,
-}
-
-/// A scalar word taken apart. Registers are below 32; the immediate is sign-extended where the format says so.
-#[derive(Clone, Copy, Debug, PartialEq, Eq)]
-pub struct Instr {
-    pub op: Op,
-    pub rd: u8,
-    pub rs1: u8,
-    pub imm: u32,
-}
+use rv32_decode::Instr;
 
 /// The vector instructions by their names (RISC-V vector extension 1.0, sections 6 and 11).
 #[derive(Clone, Copy, Debug, PartialEq, Eq)]

@@ -1,17 +1,21 @@
-use Rattle.std.proofs.Common.{◌≡◌}
+use Rattle.std.proofs.Common.{refl, ◌++◌}
 use Rattle.cape.proofs.EndingLemmas.{ends_in, report_fails, run_fails}
+use Rattle.cape.specs.Endings.{shown}
 use Rattle.cape.specs.Lines.{line_of}
 use Rattle.cape.proofs.running.run_machine.Goals as goal
 
 pub returns-in-Err-WriteFault-clause-fronts : goal.returns-in-Err-WriteFault-clause-fronts
-returns-in-Err-WriteFault-clause-fronts g c = λ is. run_fails _ _ _ _ _ _ c.in-Err-WriteFault.ensures.fronts
+returns-in-Err-WriteFault-clause-fronts g c = λ is. run_fails _ _ _ _ _ _ _ _ c.in-Err-WriteFault.ensures.fronts
 
-pub returns-in-Ok-put-clause-ends : goal.returns-in-Ok-put-clause-ends
-returns-in-Ok-put-clause-ends g c = λ is.
-    let text : c.as_bytes.result.now ≡ line_of c.in-Ok.answer c.run.new.self.core.csrs.retired = rw (c.as_bytes.ensures.value, c.as_str.ensures.value, c.report_line-line.ensures, c.retired.ensures) in
-    ends_in _ _ _ _ _ _ _ _ _ c.in-Ok.answer c.as_bytes.result.now c.in-Ok.ensures.goes c.in-Ok.ensures.live c.in-Ok.ensures.answer text _ _ c.status_for.ensures c.keep.ensures c.in-Ok-put.ensures.whole
+pub returns-in-Ok-put_end-clause-ends : goal.returns-in-Ok-put_end-clause-ends
+returns-in-Ok-put_end-clause-ends g c = λ is.
+    let text = line_of c.in-Ok.answer c.run.new.self.core.csrs.retired ++ shown c.args.options.state c.run.new.self.core in
+    ends_in c.args.options.state c.args.options.steps _ _ _ _ _ _ _ _ _ c.in-Ok.answer text c.in-Ok.ensures.goes c.in-Ok.ensures.live c.in-Ok.ensures.answer refl _ _ c.status_for.ensures c.keep.ensures c.in-Ok-put_end.ensures.whole
 
-pub returns-in-Err-clause-fronts : goal.returns-in-Err-clause-fronts
-returns-in-Err-clause-fronts g c = λ is.
-    let text : c.as_bytes.result.now ≡ line_of c.in-Ok.answer c.run.new.self.core.csrs.retired = rw (c.as_bytes.ensures.value, c.as_str.ensures.value, c.report_line-line.ensures, c.retired.ensures) in
-    report_fails _ _ _ _ _ _ _ _ _ c.in-Ok.answer c.as_bytes.result.now c.in-Ok.ensures.goes c.in-Ok.ensures.live c.in-Ok.ensures.answer text c.in-Err.ensures.front
+pub returns-clause-fronts : goal.returns-clause-fronts
+returns-clause-fronts g c = λ is.
+    let text = line_of c.in-Ok.answer c.run.new.self.core.csrs.retired ++ shown c.args.options.state c.run.new.self.core in
+    report_fails c.args.options.state c.args.options.steps _ _ _ _ _ _ _ _ _ c.in-Ok.answer text c.in-Ok.ensures.goes c.in-Ok.ensures.live c.in-Ok.ensures.answer refl c.in-Err.ensures.front
+
+pub returns-in-Err-ReadFault-clause-fronts : goal.returns-in-Err-ReadFault-clause-fronts
+returns-in-Err-ReadFault-clause-fronts g c = λ is. run_fails _ _ _ _ _ _ _ _ c.in-Err-ReadFault.ensures.fronts

@@ -1,6 +1,6 @@
 use Rattle.std.proofs.Common.{[]}
 use Rattle.machine.proofs.Carried.{appends_none}
-use Rattle.cape.proofs.TopLemmas.{refused_ends, run_ends, check_ends, front_put, front_none, ended_so, ended_run}
+use Rattle.cape.proofs.TopLemmas.{refused_ends, run_ends, check_ends, front_put, front_none, ended_so, ended_run, failed_so}
 use Rattle.cape.proofs.top.do_command.Goals as goal
 
 pub returns-in-Err-Refused-clause-ends : goal.returns-in-Err-Refused-clause-ends
@@ -14,18 +14,19 @@ returns-in-Err-Refused-clause-ends g c = λ ended image input told left.
 pub returns-in-Err-Refused-clause-fronts : goal.returns-in-Err-Refused-clause-fronts
 returns-in-Err-Refused-clause-fronts g c = λ is image input told left.
     let front = rw c.in-Err-Refused.fault-is at c.refuse.ensures.front in
+    let only = rw c.in-Err-Refused.fault-is at c.refuse.ensures.only in
     rw (refused_ends c.args.command image input c.in-Err-Refused.fault (c.in-Err-Refused.ensures.refused c.in-Err-Refused.fault c.in-Err-Refused.field-0-is image told))
-    record { front_out = front_none _ []; front_err = front_put _ _ _ (front is) }
+    record { front_out = front_none _ []; front_err = front_put _ _ _ (front (failed_so _ _ (λ never. never) is only)) }
 
 pub returns-in-Run-clause-ends : goal.returns-in-Run-clause-ends
 returns-in-Run-clause-ends g c = λ ended image input told left.
     let from = c.in-Ok.ensures.loaded image told in
-    rw (c.in-Run.is, run_ends image input c.in-Ok.loaded from) (c.run_loaded.ensures.ends (ended_run _ ended c.run_loaded.ensures.only) input left)
+    rw (c.in-Run.is, run_ends c.in-Run.options image input c.in-Ok.loaded from) (c.run_loaded.ensures.ends (ended_run _ ended c.run_loaded.ensures.only) input left)
 
 pub returns-in-Run-clause-fronts : goal.returns-in-Run-clause-fronts
 returns-in-Run-clause-fronts g c = λ is image input told left.
     let from = c.in-Ok.ensures.loaded image told in
-    rw (c.in-Run.is, run_ends image input c.in-Ok.loaded from) (c.run_loaded.ensures.fronts is input left)
+    rw (c.in-Run.is, run_ends c.in-Run.options image input c.in-Ok.loaded from) (c.run_loaded.ensures.fronts is input left)
 
 pub returns-in-Check-clause-ends : goal.returns-in-Check-clause-ends
 returns-in-Check-clause-ends g c = λ ended image input told left.
@@ -36,4 +37,7 @@ returns-in-Check-clause-ends g c = λ ended image input told left.
 pub returns-in-Check-clause-fronts : goal.returns-in-Check-clause-fronts
 returns-in-Check-clause-fronts g c = λ is image input told left.
     rw (c.in-Check.is, check_ends image input c.in-Ok.loaded (c.in-Ok.ensures.loaded image told))
-    record { front_out = front_put _ _ _ (c.check_loaded.ensures.front is); front_err = front_none _ [] }
+    record { front_out = front_put _ _ _ (c.check_loaded.ensures.front (failed_so _ _ (λ never. never) is c.check_loaded.ensures.only)); front_err = front_none _ [] }
+
+pub returns-in-Err-ReadFault-clause-fronts : goal.returns-in-Err-ReadFault-clause-fronts
+returns-in-Err-ReadFault-clause-fronts g c = λ is image input told left. record { front_out = front_none _ _; front_err = front_none _ _ }

@@ -30,4 +30,4 @@ returns-clause-keeps c =
     let same = ap (λ (e : Effect). e.csrs) c.perform.ensures in
     let kept = executed-keeps c.args.i.now c.args.pc c.args.regs.now c.args.csrs.now c.args.mem.now c.requires.vxrm in
     let now : Keeps c.args.csrs.now c.perform.new.csrs = subst (λ (v : Csrs). Keeps c.args.csrs.now v) (sym same) kept in
-    (now.vlen, now.vxrm)
+    (now.vlen, now.vxrm, now.retired)

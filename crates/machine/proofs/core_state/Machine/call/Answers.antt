@@ -1,45 +1,29 @@
-use Rattle.std.proofs.Common.{◌≡◌, true, false}
-use Rattle.std.proofs.lemmas.Bool.{eq-eqb, ne_eqb, eqb-true}
-use Rattle.std.proofs.lemmas.Result.{err_from_is_err_and}
-use Rattle.rvv_meaning.specs.States.{is_exit}
-use Rattle.machine.proofs.Carried.{quiet-out, quiet-err, exit-puts, is-write, write-puts}
+use Rattle.std.proofs.Common.{◌≡◌, Err, refl, sym, ap, ◌∙◌}
+use Rattle.cam_chain.specs.ChainValue.{slices_of}
+use Rattle.cam_chain.specs.Views.{registers_of}
+use Rattle.rvv_meaning.specs.declared.Mode.TheVariants.{Exited}
+use Rattle.rvv_meaning.specs.States.{Core}
+use Rattle.machine.specs.Moments.{Held}
+use Rattle.machine.proofs.Returns.{called-back, called-exit}
 use Rattle.machine.proofs.core_state.Machine.call.Goals as goal
 
-pub returns-then-self-eq-CALL_EXIT-clause-gained_out : goal.returns-then-self-eq-CALL_EXIT-clause-gained_out
-returns-then-self-eq-CALL_EXIT-clause-gained_out g c =
-    let exit : is_exit c.args.self.now.core ≡ true = rw (← c.self.view_is) (eq-eqb _ _ c.if-self-eq-CALL_EXIT.true) in
-    quiet-out c.args.merged c.args.self.now.core _ (exit-puts c.args.self.now.core c.args.i.now c.requires.there c.requires.call exit)
+pub returns-in-Ok-Back-clause-called : goal.returns-in-Ok-Back-clause-called
+returns-in-Ok-Back-clause-called g c =
+    let w = c.in-Ok-Back.ensures.answered in
+    let core : Core = record { regs = c.self.inside.regs; pc = c.self.inside.pc; csrs = c.self.inside.csrs; mem = c.self.inside.mem; vectors = registers_of (slices_of c.self.inside.chain); mode = c.self.inside.mode } in
+    let back = called-back core w.0 (sym c.in-Ok-Back.ensures.flow ∙ c.in-Ok-Back.field-0-is) in
+    rw (← c.self.view_is) (w.0, w.1.took, c.retire_to.ensures ∙ rw (back, c.behind.ensures, w.1.registers, w.1.memory) refl)
 
-pub returns-then-self-eq-CALL_EXIT-clause-gained_err : goal.returns-then-self-eq-CALL_EXIT-clause-gained_err
-returns-then-self-eq-CALL_EXIT-clause-gained_err g c =
-    let exit : is_exit c.args.self.now.core ≡ true = rw (← c.self.view_is) (eq-eqb _ _ c.if-self-eq-CALL_EXIT.true) in
-    quiet-err c.args.merged c.args.self.now.core _ (exit-puts c.args.self.now.core c.args.i.now c.requires.there c.requires.call exit)
+pub returns-in-Ok-Exit-clause-called : goal.returns-in-Ok-Exit-clause-called
+returns-in-Ok-Exit-clause-called g c =
+    let w = c.in-Ok-Exit.ensures.answered in
+    let core : Core = record { regs = c.self.inside.regs; pc = c.self.inside.pc; csrs = c.self.inside.csrs; mem = c.self.inside.mem; vectors = registers_of (slices_of c.self.inside.chain); mode = c.self.inside.mode } in
+    let exit = called-exit core w.0 c.in-Ok-Exit.code (sym c.in-Ok-Exit.ensures.flow ∙ c.in-Ok-Exit.field-0-is) in
+    let stopped = ap (λ (h : Held). record h { core = record h.core { mode = Exited c.in-Ok-Exit.code } }) (c.self-in-Ok-Exit.view_is ∙ c.retire_to-in-Ok-Exit.ensures) in
+    rw (← c.self.view_is) (w.0, w.1.took, stopped ∙ rw (exit, c.behind-in-Ok-Exit.ensures, w.1.registers, w.1.memory) refl)
 
-pub returns-in_err-answer-clause-front_out : goal.returns-in_err-answer-clause-front_out
-returns-in_err-answer-clause-front_out g c =
-    let going : is_exit c.args.self.now.core ≡ false = rw (← c.self.view_is) (ne_eqb _ _ c.if-self-eq-CALL_EXIT.false) in
-    let p = err_from_is_err_and c.from_residual.result c.from_residual.ensures.1 in
-    rw (p.1, write-puts c.args.self.now.core c.args.i.now c.requires.there c.requires.call going, ← c.self.view_is) c.in_err-answer.ensures.front_out
+pub returns-in-Err-ReadFault-clause-front_err : goal.returns-in-Err-ReadFault-clause-front_err
+returns-in-Err-ReadFault-clause-front_err g c = rw (← c.self.view_is) c.in-Err-ReadFault.ensures.front_err
 
-pub returns-in_err-answer-clause-front_err : goal.returns-in_err-answer-clause-front_err
-returns-in_err-answer-clause-front_err g c =
-    let going : is_exit c.args.self.now.core ≡ false = rw (← c.self.view_is) (ne_eqb _ _ c.if-self-eq-CALL_EXIT.false) in
-    let p = err_from_is_err_and c.from_residual.result c.from_residual.ensures.1 in
-    rw (p.1, write-puts c.args.self.now.core c.args.i.now c.requires.there c.requires.call going, ← c.self.view_is) c.in_err-answer.ensures.front_err
-
-pub returns-in_err-answer-clause-at : goal.returns-in_err-answer-clause-at
-returns-in_err-answer-clause-at g c =
-    let going : is_exit c.args.self.now.core ≡ false = rw (← c.self.view_is) (ne_eqb _ _ c.if-self-eq-CALL_EXIT.false) in
-    let p = err_from_is_err_and c.from_residual.result c.from_residual.ensures.1 in
-    let number = eqb-true _ _ (is-write c.args.self.now.core c.args.i.now c.requires.there c.requires.call going) in
-    rw p.1 record { number = number; descriptor = rw (← c.self.view_is) c.in_err-answer.ensures.allowed; some = rw (← c.self.view_is) c.in_err-answer.ensures.some; inside = rw (← c.self.view_is) c.in_err-answer.ensures.inside }
-
-pub returns-clause-gained_out : goal.returns-clause-gained_out
-returns-clause-gained_out g c =
-    let going : is_exit c.args.self.now.core ≡ false = rw (← c.self.view_is) (ne_eqb _ _ c.if-self-eq-CALL_EXIT.false) in
-    rw (write-puts c.args.self.now.core c.args.i.now c.requires.there c.requires.call going, ← c.self.view_is) c.in_ok-answer.ensures.gained_out
-
-pub returns-clause-gained_err : goal.returns-clause-gained_err
-returns-clause-gained_err g c =
-    let going : is_exit c.args.self.now.core ≡ false = rw (← c.self.view_is) (ne_eqb _ _ c.if-self-eq-CALL_EXIT.false) in
-    rw (write-puts c.args.self.now.core c.args.i.now c.requires.there c.requires.call going, ← c.self.view_is) c.in_ok-answer.ensures.gained_err
+pub returns-in-Err-ReadFault-clause-read_fault : goal.returns-in-Err-ReadFault-clause-read_fault
+returns-in-Err-ReadFault-clause-read_fault g c = rw (← c.self.view_is) (λ is. c.in-Err-ReadFault.ensures.read_fault (ap Err c.in-Err-ReadFault.field-0-is))

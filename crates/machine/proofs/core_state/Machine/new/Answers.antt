@@ -7,4 +7,4 @@ pub returns-clause-core : goal.returns-clause-core
 unfolding start_core
 returns-clause-core c =
     let size : c.args.vlen / 8 ≡ 4 * (c.args.vlen / 32) = omega (arith, c.requires.vlen) in
-    rw (c.in_ok-mem.ensures, c.as_slice.ensures, c.in_ok-chain.ensures.slices, blank-registers (c.args.vlen / 32) (c.args.vlen / 8) size) refl
+    rw (c.in_ok-mem.ensures, c.as_slice.ensures, c.in_ok-chain.ensures.slices, blank-registers (c.args.vlen / 32) (c.args.vlen / 8) size, c.set.ensures, c.new-regs.ensures) refl

@@ -1,4 +1,4 @@
-use Rattle.std.proofs.Common.{◌≡◌, ◌+◌, ◌-◌, ◌∙◌, suc, refl, arith}
+use Rattle.std.proofs.Common.{◌≡◌, ◌≤◌, ◌+◌, ◌-◌, ◌∙◌, suc, refl, arith}
 use Rattle.std.proofs.lemmas.Result.{err_from_is_err_and}
 use Rattle.machine.proofs.Runs.{runs_first, runs_step, runs_last, runs_fault, runs_done}
 use Rattle.machine.proofs.Modes.{ran_runs, others_stopped, running_runs}
@@ -35,8 +35,9 @@ pub loop-i-preserved : goal.loop-i-preserved
 loop-i-preserved g c =
     let left : c.args.n - c.loop-i.i ≡ suc (c.args.n - (c.loop-i.i + 1)) = omega arith in
     let on = rw left at c.loop-i.invariant.on in
+    let more : suc (c.args.n - (c.loop-i.i + 1)) ≤ c.args.n = omega arith in
     record {
-      on = runs_step _ _ _ _ _ _ _ _ _ _ _ _ _ _ _ on (running_runs _ c.loop-i.invariant.running) c.in_ok-answer.ensures.goes;
+      on = runs_step _ _ _ _ _ _ _ _ _ _ _ _ _ _ _ more on (running_runs _ c.loop-i.invariant.running) c.in_ok-answer.ensures.goes;
       running = ran_runs _ c.in_ok-answer.answer c.in_ok-answer.ensures.answer c.in-Ran.is;
       live = c.in_ok-answer.ensures.live;
       count = omega (arith, c.in_ok-answer.ensures.count);

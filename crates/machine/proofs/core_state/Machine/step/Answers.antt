@@ -1,10 +1,16 @@
 use Rattle.machine.proofs.Showing.{goes_carried, faults_failed, carries_forgotten, fails_forgotten}
 use Rattle.machine.proofs.core_state.Machine.step.Goals as goal
 
+pub returns-in-Ok-clause-carries : goal.returns-in-Ok-clause-carries
+returns-in-Ok-clause-carries g c =
+    let w = rw c.forget.ensures at c.in-Ok.ensures.carries in
+    (w.0, carries_forgotten c.args.merged c.args.self.now c.carry_out.new.self w.0 _ _ _ _ _ _ w.1)
+
 pub returns-in-Ok-clause-goes : goal.returns-in-Ok-clause-goes
 returns-in-Ok-clause-goes g c =
-    goes_carried c.args.merged c.args.self.now c.carry_out.new.self _ _ _ _ _
-    (carries_forgotten c.args.merged c.args.self.now c.carry_out.new.self _ _ _ _ (rw c.forget.ensures at c.in-Ok.ensures.carries))
+    let w = rw c.forget.ensures at c.in-Ok.ensures.carries in
+    goes_carried c.args.merged c.args.self.now c.carry_out.new.self w.0 _ _ _ _ _ _
+    (carries_forgotten c.args.merged c.args.self.now c.carry_out.new.self w.0 _ _ _ _ _ _ w.1)
 
 pub returns-in-Err-clause-fronts : goal.returns-in-Err-clause-fronts
 returns-in-Err-clause-fronts g c =

@@ -1,71 +1,42 @@
 // The write call of a guest.
-ghost use Rattle.std.specs.Prelude.{◌≡◌, ◌<◌, ◌≤◌, true, OnOk, OnErr, IfOk, IsErrOf};
+ghost use Rattle.std.specs.Prelude.{◌≡◌, ◌<◌, ◌≤◌, [], true, OnOk, OnErr, IfOk};
 ghost use Rattle.std.specs.Io.KnownBytes.{Appends};
 ghost use Rattle.cape_io.specs.Devices.{PutsFront, Rose};
 ghost use Rattle.guest_mem.specs.Ranges.{range_bytes};
 ghost use Rattle.rvv_meaning.specs.Calls.{is_output as output, is_readable, write_answer, write_bytes};
-ghost use Rattle.machine.specs.Views.{bytes_out, bytes_err, IsFaultOf};
+ghost use Rattle.guest_env.specs.Outputs.{bytes_out, bytes_err, IsFaultOf};
 
-use crate::answers::DeviceFault;
-use cape_io::Sink;
+use crate::answers::{BAD_ADDRESS, BAD_DESCRIPTOR};
+use crate::descriptors::{ERROR_OUTPUT, is_output};
+use crate::ranges::is_allowed;
+use cape_io::{Failed, Sink};
 use guest_mem::{Mem, Perms};
 
 // The bytes of a page.
 const PAGE_SIZE: u32 = 4096;
 
-// The descriptors of the output and the error output.
-const OUTPUT: u32 = 1;
-
-const ERROR_OUTPUT: u32 = 2;
-
-// The answers of a call that is refused, for its descriptor or its range: -9 and -14 (EBADF and EFAULT).
-const BAD_DESCRIPTOR: u32 = 0xffff_fff7;
-
-const BAD_ADDRESS: u32 = 0xffff_fff2;
-
-// Whether a guest may write to a descriptor.
-fn is_output(descriptor: u32) -> bool
-    ensures { result ≡ output descriptor }
-{
-    descriptor == OUTPUT || descriptor == ERROR_OUTPUT
-}
-
-// Puts a piece.
-fn put_piece<K: Sink>(sink: &mut K, piece: &[u8]) -> Result<(), DeviceFault>
-    ensures whole { OnOk result (Appends (K.held sink.old) (K.held sink.new) piece.now) }
-    ensures front { OnErr result (PutsFront (K.held sink.old) (K.held sink.new) piece.now) }
-    ensures cause { OnErr result (Rose (K.faults sink.old) (K.faults sink.new)) }
-    ensures no_read { IsErrOf result DeviceFault.ReadFault → ⊥ }
-    ensures later { K.faults sink.old ≤ K.faults sink.new }
-{
-    match sink.put(piece) {
-        Ok(()) => Ok(()),
-        Err(_) => Err(DeviceFault::WriteFault),
-    }
-}
-
 // Puts the bytes of a range, a piece for each page that it meets, in the range's own order.
-fn put_range<K: Sink>(mem: &Mem, address: u32, count: u32, sink: &mut K) -> Result<(), DeviceFault>
+fn put_range<K: Sink>(mem: &Mem, address: u32, count: u32, sink: &mut K) -> Result<(), Failed>
     requires { is_readable mem.now.pages address count ≡ true }
     ensures whole { OnOk result (Appends (K.held sink.old) (K.held sink.new) (range_bytes mem.now.pages address count)) }
     ensures front { OnErr result (PutsFront (K.held sink.old) (K.held sink.new) (range_bytes mem.now.pages address count)) }
     ensures some { OnErr result (0 < count) }
     ensures cause { OnErr result (Rose (K.faults sink.old) (K.faults sink.new)) }
-    ensures no_read { IsErrOf result DeviceFault.ReadFault → ⊥ }
+    ensures stays { count ≡ 0 → sink.new ≡ sink.old }
     ensures later { K.faults sink.old ≤ K.faults sink.new }
 {
     let mut at = address;
     let mut left = count;
     while left > 0 {
         let len = (PAGE_SIZE - at % PAGE_SIZE).min(left);
-        put_piece(sink, mem.bytes_in_page(at, len))?;
+        sink.put(mem.bytes_in_page(at, len))?;
         at = at.wrapping_add(len);
         left -= len;
     }
     Ok(())
 }
 
-/// What write(descriptor, address, count) answers, after its bytes were put. A call that is refused puts nothing.
+// What write(descriptor, address, count) answers, after its bytes were put. A call that is refused puts nothing.
 pub(crate) fn write<O: Sink, E: Sink>(
     mem: &Mem,
     descriptor: u32,
@@ -74,7 +45,7 @@ pub(crate) fn write<O: Sink, E: Sink>(
     out: &mut O,
     err: &mut E,
     merged: bool,
-) -> Result<u32, DeviceFault>
+) -> Result<u32, Failed>
     ensures answer { IfOk result (λ answer. answer ≡ write_answer mem.now.pages descriptor address count) }
     ensures gained_out { OnOk result (Appends (O.held out.old) (O.held out.new) (bytes_out merged descriptor (write_bytes mem.now.pages descriptor address count))) }
     ensures gained_err { OnOk result (Appends (E.held err.old) (E.held err.new) (bytes_err merged descriptor (write_bytes mem.now.pages descriptor address count))) }
@@ -84,14 +55,15 @@ pub(crate) fn write<O: Sink, E: Sink>(
     ensures allowed { OnErr result (output descriptor ≡ true) }
     ensures inside { OnErr result (is_readable mem.now.pages address count ≡ true) }
     ensures some { OnErr result (0 < count) }
-    ensures no_read { IsErrOf result DeviceFault.ReadFault → ⊥ }
+    ensures out_stays { bytes_out merged descriptor (write_bytes mem.now.pages descriptor address count) ≡ [] → out.new ≡ out.old }
+    ensures err_stays { bytes_err merged descriptor (write_bytes mem.now.pages descriptor address count) ≡ [] → err.new ≡ err.old }
     ensures later_out { O.faults out.old ≤ O.faults out.new }
     ensures later_err { E.faults err.old ≤ E.faults err.new }
 {
     if !is_output(descriptor) {
         return Ok(BAD_DESCRIPTOR);
     }
-    if mem.check(address, count, Perms::READ).is_err() {
+    if !is_allowed(mem, address, count, Perms::READ) {
         return Ok(BAD_ADDRESS);
     }
     if merged || descriptor == ERROR_OUTPUT {

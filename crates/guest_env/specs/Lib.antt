@@ -1,0 +1,4 @@
+-- What the calls of a guest leave, and what they do to the devices.
+pub mod Inputs
+pub mod Outputs
+pub mod Answers
