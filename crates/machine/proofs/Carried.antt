@@ -169,5 +169,6 @@ module _ (merged : Bool) (old new : Held) (left left' out out' err err' : Option
   pub fails-call : PutsFront out out' (bytes_out merged (first old.core.regs) (put_by (named_call old.core.regs) old.core.regs old.core.mem))
       → PutsFront err err' (bytes_err merged (first old.core.regs) (put_by (named_call old.core.regs) old.core.regs old.core.mem))
       → Fails merged old out out' err err'
+  unfolding call_at
   fails-call put_out put_err =
-      record { front_out = rw (call_gains_out merged i old.core there is) put_out; front_err = rw (call_gains_err merged i old.core there is) put_err }
+      record { calls = rw (there, is) refl; front_out = rw (call_gains_out merged i old.core there is) put_out; front_err = rw (call_gains_err merged i old.core there is) put_err }

@@ -3,7 +3,7 @@ use Rattle.std.proofs.Common.{◌≡◌, ℕ, zero, suc, ◌+◌, ◌-◌, ◌<�
 use Rattle.rvv_meaning.specs.States.{Core, State, step, run, is_running}
 use Rattle.machine.specs.Moments.{Held, Moment, moment_after, moments}
 use Rattle.guest_env.specs.Answers.{IsReading}
-use Rattle.machine.specs.Views.{GoesBy, FaultsIn, IsFrontOf, RunsOn, ReadsIn, shown_out, shown_err, gains_out, gains_err}
+use Rattle.machine.specs.Views.{CallsAt, GoesBy, FaultsIn, IsFrontOf, RunsOn, ReadsIn, shown_out, shown_err, gains_out, gains_err}
 use Rattle.machine.proofs.Showing.{shown_out-step, shown_err-step}
 
 front_same : (xs : List ℕ) → IsFrontOf xs xs
@@ -106,10 +106,10 @@ module _ (n k : ℕ) (merged : Bool) (h0 h1 h2 : Held) (l0 l1 l2 o0 o1 o2 e0 e1 
       )
 
   -- a read of the run that fails
-  pub runs_reading : suc k ≤ n → RunsOn n (suc k) merged h0 h1 l0 l1 o0 o1 e0 e1 → IsReading h1.core.regs h1.core.mem → ReadsIn n merged h0 l0 o0 e0
-  runs_reading more on reads = λ m fo fe shows.
+  pub runs_reading : suc k ≤ n → RunsOn n (suc k) merged h0 h1 l0 l1 o0 o1 e0 e1 → CallsAt h1.core → IsReading h1.core.regs h1.core.mem → ReadsIn n merged h0 l0 o0 e0
+  runs_reading more on calls reads = λ m fo fe shows.
       let w = on m fo fe shows in
-      (n - suc k, omega arith, rw (← w.3, w.1.holds) reads)
+      (n - suc k, omega arith, rw (← w.3, w.1.holds) calls, rw (← w.3, w.1.holds) reads)
 
 -- the run is over after its last step
 pub runs_done : (n : ℕ) (merged : Bool) (h0 h1 : Held) (l0 l1 o0 o1 e0 e1 : Option (List ℕ)) → RunsOn n 0 merged h0 h1 l0 l1 o0 o1 e0 e1 → GoesBy (λ m. moments m n) merged h0 h1 l0 l1 o0 o1 e0 e1

@@ -81,4 +81,4 @@ carries_forgotten merged old new taken left left' out out' err err' w =
     record { core = w.core; slices = w.slices; last = w.last; live = w.live; took = w.took; gained_out = w.gained_out; gained_err = w.gained_err }
 
 pub fails_forgotten : (merged : Bool) (old : Held) (out out' err err' : Option (List ℕ)) → Fails merged (record old { last = [] }) out out' err err' → Fails merged old out out' err err'
-fails_forgotten merged old out out' err err' w = record { front_out = w.front_out; front_err = w.front_err }
+fails_forgotten merged old out out' err err' w = record { calls = w.calls; front_out = w.front_out; front_err = w.front_err }

@@ -1,13 +1,12 @@
 -- What a step does to a machine and its devices, whatever the devices tell.
-use Rattle.std.specs.Prelude.{◌≡◌, ℕ, Bool, false, List, [], Option}
+use Rattle.std.specs.Prelude.{◌≡◌, ℕ, Bool, List, Option}
 use Rattle.std.specs.Io.KnownBytes.{Appends}
 use Rattle.cape_io.specs.Devices.{PutsFront}
 use Rattle.cam_chain.specs.ChainValue.{slices_of}
-use Rattle.guest_mem.specs.Pages.{Memory}
 use Rattle.guest_env.specs.Inputs.{Takes}
-use Rattle.rvv_meaning.specs.States.{Core, core_after, asked}
+use Rattle.rvv_meaning.specs.States.{core_after, asked}
 use Rattle.machine.specs.Moments.{Held, program_at, slices_by, last_by}
-use Rattle.machine.specs.Views.{gains_out, gains_err}
+use Rattle.machine.specs.Views.{CallsAt, gains_out, gains_err}
 
 -- A step was carried out that took these bytes of the input: the core is the one that the meaning gives, the slices are
 -- the replay of the instruction's program, and the sinks gained the bytes of the step.
@@ -20,12 +19,8 @@ pub record Carries (merged : Bool) (old new : Held) (taken : List ℕ) (left lef
   pub gained_out : Appends out out' (gains_out merged old.core)
   pub gained_err : Appends err err' (gains_err merged old.core)
 
--- A step failed: the sinks gained a front of the bytes of the step.
+-- A step failed: it was a call, and the sinks gained a front of the bytes of the step.
 pub record Fails (merged : Bool) (old : Held) (out out' err err' : Option (List ℕ)) : Type 0 where
+  pub calls : CallsAt old.core
   pub front_out : PutsFront out out' (gains_out merged old.core)
   pub front_err : PutsFront err err' (gains_err merged old.core)
-
--- Behind a fault of a device all but the memory stays.
-pub record Stays (old new : Held) : Type 0 where
-  pub core : (mem : Memory) × (new.core ≡ record old.core { mem = mem })
-  pub chain : new.chain ≡ old.chain

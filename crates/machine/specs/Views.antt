@@ -4,7 +4,8 @@ use Rattle.std.specs.Io.KnownBytes.{Appends}
 use Rattle.cam_chain.specs.ChainValue.{slices_of}
 use Rattle.guest_env.specs.Outputs.{bytes_out, bytes_err}
 use Rattle.guest_env.specs.Answers.{IsReading}
-use Rattle.rvv_meaning.specs.States.{Core, State, reg, puts}
+use Rattle.rvv_meaning.specs.Calls.{named_call}
+use Rattle.rvv_meaning.specs.States.{Core, State, reg, puts, call_at}
 use Rattle.machine.specs.Moments.{Held, Moment, moments}
 
 -- What the two sinks gain of a state. Apart, they are the output and the error output; merged, the second gains the
@@ -58,8 +59,12 @@ RunsOn n k merged old new left left' out out' err err' =
     (m : Moment) (first_out first_err : Option (List ℕ)) → Shows merged m old left first_out out first_err err
     → (t : Moment) × Shows merged t new left' first_out out' first_err err' × (moments m n ≡ moments t k) × (t ≡ moments m (n - k))
 
--- Whatever moment the objects show before, some step of n from it starts at a read of some bytes that is not refused.
+-- The instruction at pc makes the call that the registers ask for.
+abbrev pub CallsAt : Core → Type 0
+CallsAt c = call_at c ≡ Some (named_call c.regs)
+
+-- Whatever moment the objects show before, some step of n from it makes a read of some bytes that is not refused.
 abbrev pub ReadsIn : ℕ → Bool → Held → Option (List ℕ) → Option (List ℕ) → Option (List ℕ) → Type 0
 ReadsIn n merged old left out err =
     (m : Moment) (first_out first_err : Option (List ℕ)) → Shows merged m old left first_out out first_err err
-    → (k : ℕ) × (k < n) × IsReading (moments m k).state.core.regs (moments m k).state.core.mem
+    → (k : ℕ) × (k < n) × CallsAt (moments m k).state.core × IsReading (moments m k).state.core.regs (moments m k).state.core.mem

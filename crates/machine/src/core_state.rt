@@ -21,8 +21,8 @@ ghost use Rattle.machine.specs.Answers.{answer_of, halt_of};
 ghost use Rattle.machine.specs.Fields.{NextFits};
 ghost use Rattle.machine.specs.Moments.{moment_after, moments};
 ghost use Rattle.machine.specs.Opening.{memory_of};
-ghost use Rattle.machine.specs.Views.{GoesBy, FaultsIn, ReadsIn, gains_out, gains_err};
-ghost use Rattle.machine.specs.Carrying.{Carries, Fails, Stays};
+ghost use Rattle.machine.specs.Views.{CallsAt, GoesBy, FaultsIn, ReadsIn};
+ghost use Rattle.machine.specs.Carrying.{Carries, Fails};
 
 use crate::answers::{DeviceFault, Step};
 use crate::words::{decode_vector, is_vector_word};
@@ -559,6 +559,7 @@ impl Machine {
 
         // What stands after a device fault, and its cause.
         ensures stays { OnErr result (self.new ≡ record self.old { core = record self.old.core { mem = self.new.core.mem }; last = []; live = false }) }
+        ensures calls { OnErr result (CallsAt self.old.core) }
         ensures fronts { OnErr result (FaultsIn moment_after merged self.old (S.left input.old) (O.held out.old) (O.held out.new) (E.held err.old) (E.held err.new)) }
         ensures read_fault { IsErrOf result DeviceFault.ReadFault → FailsReading self.old.core.regs self.old.core.mem self.new.core.mem (S.left input.old) (S.left input.new) (S.faults input.old) (S.faults input.new) }
         ensures write_fault { IsErrOf result DeviceFault.WriteFault → FailsWriting merged self.old.core.regs self.old.core.mem self.new.core.mem (O.faults out.old) (O.faults out.new) (E.faults err.old) (E.faults err.new) }
@@ -601,7 +602,7 @@ impl Machine {
         ensures read_cause { IsErrOf result DeviceFault.ReadFault → Rose (S.faults input.old) (S.faults input.new) }
         ensures reads { IsErrOf result DeviceFault.ReadFault → ReadsIn n merged self.old (S.left input.old) (O.held out.old) (E.held err.old) }
         ensures write_cause { IsErrOf result DeviceFault.WriteFault → IsFaultOf merged (first self.new.core.regs) (O.faults out.old) (O.faults out.new) (E.faults err.old) (E.faults err.new) }
-        ensures write_at { IsErrOf result DeviceFault.WriteFault → IsWriting self.new.core.regs self.new.core.mem }
+        ensures write_at { IsErrOf result DeviceFault.WriteFault → CallsAt self.new.core × IsWriting self.new.core.regs self.new.core.mem }
         ensures later_input { S.faults input.old ≤ S.faults input.new }
         ensures later_out { O.faults out.old ≤ O.faults out.new }
         ensures later_err { E.faults err.old ≤ E.faults err.new }
