@@ -12,12 +12,12 @@ use Rattle.rvv_meaning.specs.Texts.{report, report_at}
 use Rattle.machine.specs.declared.answers.Step.{Step}
 use Rattle.machine.specs.Answers.{answer_of}
 use Rattle.machine.specs.Moments.{Held, Moment, moments}
-use Rattle.machine.specs.Views.{Shows, GoesBy, FaultsIn, GainsFront, IsFrontOf}
+use Rattle.machine.specs.Views.{Shows, GoesBy, FaultsIn, ReadsIn, GainsFront, IsFrontOf}
 use Rattle.machine.proofs.Showing.{appends_more}
 use Rattle.machine.proofs.Runs.{state_run}
 use Rattle.cape.specs.declared.ending.Status.{Status}
 use Rattle.cape.specs.Lines.{line_of}
-use Rattle.cape.specs.Endings.{EndsBy, ending_of, FaultsBefore, status_of, kept_for, held_for, Kept, IsAt, Keeps, status_for_answer, shown}
+use Rattle.cape.specs.Endings.{EndsBy, ending_of, FaultsBefore, ReadsWithin, status_of, kept_for, held_for, Kept, IsAt, Keeps, status_for_answer, shown}
 
 line_is_report : (mode : Mode) (n : ℕ) → line_of (answer_of mode) n ≡ report_at mode n
 line_is_report Running n = refl
@@ -89,3 +89,10 @@ run_fails asked steps machine left out out' err err' faults m fo fe shows =
       front_out = f.0;
       front_err = (f.1.0, f.1.1, (f.1.2.0 ++ (report t ++ shown asked t.core), rw f.1.2.1 (append_assoc f.1.0 f.1.2.0 (report t ++ shown asked t.core))));
     }
+
+-- a read of the run that fails is at one of its steps
+pub reads_in : (steps : ℕ) (machine : Held) (left out err : Option (List ℕ)) → ReadsIn steps false machine left out err
+    → (m : Moment) (fo fe : Option (List ℕ)) → Shows false m machine left fo out fe err → ReadsWithin m.state steps
+reads_in steps machine left out err reads m fo fe shows =
+    let r = reads m fo fe shows in
+    (r.0, r.1, rw (← state_run r.0 m) r.2, rw (← state_run r.0 m) r.3)

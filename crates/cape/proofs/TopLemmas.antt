@@ -39,7 +39,7 @@ refused_ends command image input f is = rw is refl
 abbrev pub memory_in : Loaded → Memory
 memory_in l = memory_of l.regions l.heap l.heap_end
 
-start_loaded : (image input : List ℕ) (l : Loaded) → IsLoadedFrom image l → start image vlen input ≡ start_state vlen l.entry_pc (memory_in l) input
+pub start_loaded : (image input : List ℕ) (l : Loaded) → IsLoadedFrom image l → start image vlen input ≡ start_state vlen l.entry_pc (memory_in l) input
 unfolding start
 start_loaded image input l from = rw (from.entry_pc, from.regions_are, from.heap_is, from.heap_end_is) refl
 

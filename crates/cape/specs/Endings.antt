@@ -1,5 +1,5 @@
 -- How a command ends: what each status says of the image and of the state that its run reaches.
-use Rattle.std.specs.Prelude.{◌≡◌, ⊤, ℕ, Bool, List, [], ◌++◌, map, Option, Some, None, true, false, MatchOption}
+use Rattle.std.specs.Prelude.{◌≡◌, ◌<◌, ⊤, ℕ, Bool, List, [], ◌++◌, map, Option, Some, None, true, false, MatchOption}
 use Rattle.std.specs.Io.KnownBytes.{Appends}
 use Rattle.elf_load.specs.Faults.{fault}
 use Rattle.elf_load.specs.Fields.{entry}
@@ -13,7 +13,8 @@ use Rattle.rvv_meaning.specs.States.{State, Core, run}
 use Rattle.rvv_meaning.specs.Texts.{report}
 use Rattle.machine.specs.Moments.{Held, slices_after}
 use Rattle.machine.specs.Opening.{start}
-use Rattle.machine.specs.Views.{GainsFront}
+use Rattle.guest_env.specs.Answers.{IsReading}
+use Rattle.machine.specs.Views.{CallsAt, GainsFront}
 use Rattle.machine.specs.declared.answers.Step.{Step}
 use Rattle.machine.specs.declared.answers.Step.TheVariants.{Ran, Exited as SaysExited, Trapped as SaysTrapped, Unbuilt as SaysUnbuilt}
 use Rattle.cape.specs.declared.words.Command.{Command}
@@ -198,3 +199,12 @@ pub record EndsBy (e : Ending) (status : Status) (kept : Option Held) (left firs
 pub record FaultsBefore (e : Ending) (first_out out first_err err : Option (List ℕ)) : Type 0 where
   pub front_out : GainsFront first_out out e.out
   pub front_err : GainsFront first_err err e.err
+
+-- Some step of n from a state is a call that reads bytes of the input.
+abbrev pub ReadsWithin : State → ℕ → Type 0
+ReadsWithin s n = (k : ℕ) × (k < n) × CallsAt (run s k).core × IsReading (run s k).core.regs (run s k).core.mem
+
+-- The command is a run of an image without a fault, and some step of it reads the input.
+abbrev pub ReadsInput : Command → List ℕ → List ℕ → Type 0
+ReadsInput (Run options) image input = (fault image ≡ None) × ReadsWithin (start image vlen input) options.steps
+ReadsInput Check image input = ⊥

@@ -8,7 +8,7 @@ ghost use Rattle.machine.specs.Moments.{Moment, moments};
 ghost use Rattle.machine.specs.Views.{Shows};
 ghost use Rattle.machine.specs.Answers.{answer_of};
 ghost use Rattle.cape.specs.Grammar.{most_steps};
-ghost use Rattle.cape.specs.Endings.{IsOfRun, IsFault, KeepsMachine, EndsBy, ending_of, FaultsBefore, status_for_answer, held_for, shown};
+ghost use Rattle.cape.specs.Endings.{IsOfRun, IsFault, KeepsMachine, EndsBy, ending_of, FaultsBefore, ReadsWithin, status_for_answer, held_for, shown};
 ghost use Rattle.cape.specs.Lines.{line_of};
 
 use crate::ending::Status;
@@ -88,6 +88,8 @@ pub(crate) fn run_machine<S: Source, O: Sink, E: Sink>(
         → FaultsBefore (ending_of options.state (run m.state options.steps) (moments m options.steps).slices) first_out (O.held out.new) first_err (E.held err.new) }
     ensures only { IsOfRun result ⊎ IsFault result }
     ensures read { result ≡ Status.ReadFault → Rose (S.faults input.old) (S.faults input.new) }
+    ensures reads { result ≡ Status.ReadFault → (m : Moment) (first_out first_err : Option (List ℕ)) → Shows false m machine (S.left input.old) first_out (O.held out.old) first_err (E.held err.old)
+        → ReadsWithin m.state options.steps }
     ensures write { result ≡ Status.WriteFault → Rose (O.faults out.old) (O.faults out.new) ⊎ Rose (E.faults err.old) (E.faults err.new) }
     ensures kept { KeepsMachine result ⊎ (kept.new ≡ None) }
     ensures later_input { S.faults input.old ≤ S.faults input.new }

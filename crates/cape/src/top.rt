@@ -5,7 +5,7 @@ ghost use Rattle.cape_io.specs.Devices.{Rose, Present, PutsFront, word_at};
 ghost use Rattle.rvv_meaning.specs.Images.{start_state};
 ghost use Rattle.rvv_meaning.specs.Texts.{usage_line};
 ghost use Rattle.machine.specs.Opening.{memory_of};
-ghost use Rattle.cape.specs.Endings.{IsOfRun, IsEnded, IsFault, IsRefused, KeepsMachine, EndsBy, FaultsBefore, ending, ending_from, vlen};
+ghost use Rattle.cape.specs.Endings.{IsOfRun, IsEnded, IsFault, IsRefused, KeepsMachine, EndsBy, FaultsBefore, ReadsWithin, ReadsInput, ending, ending_from, vlen};
 ghost use Rattle.cape.specs.Grammar.{command_of as command_in, most_steps, IsInRange, IsRun};
 ghost use Rattle.elf_load.specs.Layout.{span_of};
 ghost use Rattle.cape.specs.Layouts.{layout_text};
@@ -64,6 +64,8 @@ fn run_loaded<S: Source, O: Sink, E: Sink>(
         → FaultsBefore (ending_from options (start_state vlen loaded.entry_pc (memory_of loaded.regions loaded.heap loaded.heap_end) input_bytes)) (O.held out.old) (O.held out.new) (E.held err.old) (E.held err.new) }
     ensures only { IsOfRun result ⊎ (IsFault result ⊎ (result ≡ Status.NoMemory)) }
     ensures read { result ≡ Status.ReadFault → Rose (S.faults input.old) (S.faults input.new) }
+    ensures reads { result ≡ Status.ReadFault → (input_bytes : List ℕ) → S.left input.old ≡ Some input_bytes
+        → ReadsWithin (start_state vlen loaded.entry_pc (memory_of loaded.regions loaded.heap loaded.heap_end) input_bytes) options.steps }
     ensures nothing { result ≡ Status.NoMemory → Appends (O.held out.old) (O.held out.new) [] × Appends (E.held err.old) (E.held err.new) [] }
     ensures kept { KeepsMachine result ⊎ (kept.new ≡ None) }
     ensures write { result ≡ Status.WriteFault → Rose (O.faults out.old) (O.faults out.new) ⊎ Rose (E.faults err.old) (E.faults err.new) }
@@ -114,7 +116,9 @@ fn do_command<F: Files, S: Source, O: Sink, E: Sink>(
     ensures nothing { result ≡ Status.NoMemory → Appends (O.held out.old) (O.held out.new) [] × Appends (E.held err.old) (E.held err.new) [] }
     ensures kept { KeepsMachine result ⊎ (kept.new ≡ None) }
     ensures never { result ≢ Status.Usage }
-    ensures read { result ≡ Status.ReadFault → FailedOn place (F.faults files.old) (F.faults files.new) (F.at files.new) (F.since files.new) ⊎ Rose (S.faults input.old) (S.faults input.new) }
+    ensures read { result ≡ Status.ReadFault → (FailedOn place (F.faults files.old) (F.faults files.new) (F.at files.new) (F.since files.new) × (Appends (O.held out.old) (O.held out.new) [] × Appends (E.held err.old) (E.held err.new) [])) ⊎ (Rose (S.faults input.old) (S.faults input.new) × IsRun command) }
+    ensures reads { result ≡ Status.ReadFault → (image input_bytes : List ℕ) → F.told files.old (word_at (F.names files.old) place) ≡ Present image → S.left input.old ≡ Some input_bytes
+        → FailedOn place (F.faults files.old) (F.faults files.new) (F.at files.new) (F.since files.new) ⊎ ReadsInput command image input_bytes }
     ensures write { result ≡ Status.WriteFault → Rose (O.faults out.old) (O.faults out.new) ⊎ Rose (E.faults err.old) (E.faults err.new) }
     ensures later_files { F.faults files.old ≤ F.faults files.new }
     ensures later_input { S.faults input.old ≤ S.faults input.new }
@@ -151,14 +155,17 @@ pub fn cape<F: Files, S: Source, O: Sink, E: Sink>(
     ensures ends { IsEnded result → (command : Command) (image input_bytes : List ℕ) → command_in (map string_bytes words.now) ≡ Some command → F.told files.old (word_at (map string_bytes words.now) 1) ≡ Present image → S.left input.old ≡ Some input_bytes
         → EndsBy (ending command image input_bytes) result kept.new (S.left input.new) (O.held out.old) (O.held out.new) (E.held err.old) (E.held err.new) }
 
-    // Each status has its cause.
+    // Each status has its cause. At a fault of reading the image's file failed, and nothing was put; or the input failed in
+    // a run, at one of its steps that reads.
     ensures of_run { IsOfRun result → IsSomeAnd (command_in (map string_bytes words.now)) IsRun }
     ensures of_check { result ≡ Status.Done → command_in (map string_bytes words.now) ≡ Some Command.Check }
     ensures of_image { IsRefused result → IsSome (command_in (map string_bytes words.now)) }
     ensures usage { result ≡ Status.Usage → command_in (map string_bytes words.now) ≡ None }
     ensures no_command { command_in (map string_bytes words.now) ≡ None → (result ≡ Status.Usage) ⊎ (result ≡ Status.WriteFault) }
     ensures usage_text { result ≡ Status.Usage → Appends (O.held out.old) (O.held out.new) [] × Appends (E.held err.old) (E.held err.new) usage_line }
-    ensures read { result ≡ Status.ReadFault → FailedOn 1 (F.faults files.old) (F.faults files.new) (F.at files.new) (F.since files.new) ⊎ Rose (S.faults input.old) (S.faults input.new) }
+    ensures read { result ≡ Status.ReadFault → (FailedOn 1 (F.faults files.old) (F.faults files.new) (F.at files.new) (F.since files.new) × (Appends (O.held out.old) (O.held out.new) [] × Appends (E.held err.old) (E.held err.new) [])) ⊎ (Rose (S.faults input.old) (S.faults input.new) × IsSomeAnd (command_in (map string_bytes words.now)) IsRun) }
+    ensures reads { result ≡ Status.ReadFault → (command : Command) (image input_bytes : List ℕ) → command_in (map string_bytes words.now) ≡ Some command → F.told files.old (word_at (map string_bytes words.now) 1) ≡ Present image → S.left input.old ≡ Some input_bytes
+        → FailedOn 1 (F.faults files.old) (F.faults files.new) (F.at files.new) (F.since files.new) ⊎ ReadsInput command image input_bytes }
     ensures read_of { result ≡ Status.ReadFault → IsSome (command_in (map string_bytes words.now)) }
     ensures write { result ≡ Status.WriteFault → Rose (O.faults out.old) (O.faults out.new) ⊎ Rose (E.faults err.old) (E.faults err.new) }
 

@@ -1,5 +1,5 @@
-use Rattle.std.proofs.Common.{refl, ◌++◌}
-use Rattle.cape.proofs.EndingLemmas.{ends_in, report_fails, run_fails}
+use Rattle.std.proofs.Common.{refl, ap, Err, ◌++◌}
+use Rattle.cape.proofs.EndingLemmas.{ends_in, report_fails, run_fails, reads_in}
 use Rattle.cape.specs.Endings.{shown}
 use Rattle.cape.specs.Lines.{line_of}
 use Rattle.cape.proofs.running.run_machine.Goals as goal
@@ -19,3 +19,6 @@ returns-clause-fronts g c = λ is.
 
 pub returns-in-Err-ReadFault-clause-fronts : goal.returns-in-Err-ReadFault-clause-fronts
 returns-in-Err-ReadFault-clause-fronts g c = λ is. run_fails _ _ _ _ _ _ _ _ c.in-Err-ReadFault.ensures.fronts
+
+pub returns-in-Err-ReadFault-clause-reads : goal.returns-in-Err-ReadFault-clause-reads
+returns-in-Err-ReadFault-clause-reads g c = λ is. reads_in _ _ _ _ _ (c.in-Err-ReadFault.ensures.reads (ap Err c.in-Err-ReadFault.field-0-is))

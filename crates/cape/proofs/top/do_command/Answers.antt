@@ -1,6 +1,6 @@
-use Rattle.std.proofs.Common.{[]}
+use Rattle.std.proofs.Common.{[], inr}
 use Rattle.machine.proofs.Carried.{appends_none}
-use Rattle.cape.proofs.TopLemmas.{refused_ends, run_ends, check_ends, front_put, front_none, ended_so, ended_run, failed_so}
+use Rattle.cape.proofs.TopLemmas.{refused_ends, start_loaded, run_ends, check_ends, front_put, front_none, ended_so, ended_run, failed_so}
 use Rattle.cape.proofs.top.do_command.Goals as goal
 
 pub returns-in-Err-Refused-clause-ends : goal.returns-in-Err-Refused-clause-ends
@@ -41,3 +41,8 @@ returns-in-Check-clause-fronts g c = λ is image input told left.
 
 pub returns-in-Err-ReadFault-clause-fronts : goal.returns-in-Err-ReadFault-clause-fronts
 returns-in-Err-ReadFault-clause-fronts g c = λ is image input told left. record { front_out = front_none _ _; front_err = front_none _ _ }
+
+pub returns-in-Run-clause-reads : goal.returns-in-Run-clause-reads
+returns-in-Run-clause-reads g c = λ is image input told left.
+    let from = c.in-Ok.ensures.loaded image told in
+    rw (c.in-Run.is) (inr (from.sound, rw (start_loaded image input c.in-Ok.loaded from) (c.run_loaded.ensures.reads is input left)))

@@ -11,3 +11,8 @@ pub returns-in-Ok-clause-fronts : goal.returns-in-Ok-clause-fronts
 unfolding slices_after
 returns-in-Ok-clause-fronts g c = λ is input told.
     c.run_machine.ensures.fronts is _ _ _ (shows_start c.args.loaded.entry_pc (memory_in c.args.loaded) input c.in-Ok.machine _ _ _ told c.in-Ok.ensures.core c.in-Ok.ensures.slices c.in-Ok.ensures.last)
+
+pub returns-in-Ok-clause-reads : goal.returns-in-Ok-clause-reads
+unfolding slices_after
+returns-in-Ok-clause-reads g c = λ is input told.
+    c.run_machine.ensures.reads is _ _ _ (shows_start c.args.loaded.entry_pc (memory_in c.args.loaded) input c.in-Ok.machine _ _ _ told c.in-Ok.ensures.core c.in-Ok.ensures.slices c.in-Ok.ensures.last)
