@@ -2,21 +2,10 @@
 # Compares `cape check` with the executable model on every image of the corpus of real programs: the text, the error
 # output and the status. Skips where the corpus or the model is missing.
 #   scripts/check_corpus.sh [CAPE]     CAPE: the built program, crates/cape/out/cape by default
-set -u
-top=$(cd "$(dirname "$0")/.." && pwd)
+source "$(dirname "$0")/common.sh"
 cape=${1:-$top/crates/cape/out/cape}
-shared=$top/../shared
-model=$shared/oracle/cape-ref
-if [ ! -x "$model" ] || [ ! -d "$shared/corpus" ]; then
-    echo "skipped: no corpus or no model beside the repository"
-    exit 0
-fi
-if [ ! -x "$cape" ]; then
-    echo "no program at $cape: build it by 'rt run' in crates/cape"
-    exit 2
-fi
-work=$(mktemp -d)
-trap 'rm -rf "$work"' EXIT
+need_beside "$model" "$shared/corpus"
+need_built "$cape" cape
 same=0
 differ=0
 while IFS= read -r image; do

@@ -3,24 +3,13 @@
 # output, error output and status, until the program ended, came to an instruction that is not built, or made 20,000
 # steps. Skips where the corpus or the model is missing.
 #   scripts/compare_states.sh [CAPE]     CAPE: the built program, crates/cape/out/cape by default
-set -u
-top=$(cd "$(dirname "$0")/.." && pwd)
+source "$(dirname "$0")/common.sh"
 cape=${1:-$top/crates/cape/out/cape}
-shared=$top/../shared
-model=$shared/oracle/cape-ref
 level=3
 last=20000
 apart=1000
-if [ ! -x "$model" ] || [ ! -d "$shared/corpus" ]; then
-    echo "skipped: no corpus or no model beside the repository"
-    exit 0
-fi
-if [ ! -x "$cape" ]; then
-    echo "no program at $cape: build it by 'rt run' in crates/cape"
-    exit 2
-fi
-work=$(mktemp -d)
-trap 'rm -rf "$work"' EXIT
+need_beside "$model" "$shared/corpus"
+need_built "$cape" cape
 states=0
 programs=0
 differ=0

@@ -1,3 +1,4 @@
 -- Laws of numbers, of their bits and of lists made place by place.
 pub mod Numbers
 pub mod Lists
+pub mod Digits

@@ -1,3 +1,4 @@
 -- Numbers and their bits.
 pub mod Numbers
 pub mod Lists
+pub mod Digits

@@ -3,12 +3,12 @@ use Rattle.std.proofs.Common.{◌≡◌, ℕ, ◌+◌, ◌*◌, ◌<◌, ◌≤�
 use Rattle.std.specs.Prelude.{replicate}
 use Rattle.std.proofs.lemmas.List.{get_or_past, get_or-replicate, length-replicate}
 use Rattle.std.proofs.lemmas.Bool.{cases_lt}
-use Rattle.cam_chain.specs.Slices.{blank, placed}
+use Rattle.bit_rows.specs.Slices.{blank, placed}
 use Rattle.cam_chain.specs.ChainValue.{ChainValue, slices_of, row_bit, EachLong}
 use Rattle.cam_chain.proofs.SlicesLemmas.{same_slices}
 
 -- a bit of a row of zeros, or past it
-zero_bit : (n c : ℕ) → get_or (replicate n false) c false ≡ false
+pub zero_bit : (n c : ℕ) → get_or (replicate n false) c false ≡ false
 zero_bit n c = ⊎_elim (λ (h : c < n). get_or-replicate n c false false h)
     (λ (h : n ≤ c). get_or_past (replicate n false) c false (omega (arith, length-replicate n false))) (cases_lt c n)
 

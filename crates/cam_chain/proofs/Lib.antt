@@ -5,6 +5,7 @@ pub mod Matching
 pub mod Rows
 pub mod Fresh
 pub mod Words
+pub mod Placing
 pub mod Searching
 pub mod Updating
 pub mod Passing

@@ -1,7 +1,8 @@
 -- The tags after a pass.
 use Rattle.std.proofs.Common.{◌≡◌, ℕ, ◌+◌, ◌-◌, ◌<◌, ◌≤◌, Bool, true, false, cond, ◌&&◌, leb, ltb, List, [], length, get_or, refl, arith, ⊎_elim, take, drop, ◌++◌}
 use Rattle.std.proofs.lemmas.Bool.{cases_lt, cases_Bool, ltb-true, and_parts, lt-ltb, le-ltb, le-leb, lt-leb}
-use Rattle.cam_chain.specs.Slices.{passed, placed}
+use Rattle.bit_rows.specs.Slices.{placed}
+use Rattle.cam_chain.specs.Slices.{passed}
 use Rattle.cam_chain.specs.ChainValue.{ChainValue, slices_of}
 use Rattle.cam_chain.proofs.SlicesLemmas.{same_slices}
 use Rattle.std.proofs.Math.Seq.{take-append_seam}

@@ -1,8 +1,12 @@
 -- A row of a list of rows, written.
-use Rattle.std.proofs.Common.{◌≡◌, ℕ, ◌+◌, ◌-◌, ◌<◌, ◌≤◌, Bool, false, List, [], length, get_or, ◌∙◌, arith, ⊎_elim, set, length-set, get_or-set_same, get_or-set_other}
+use Rattle.std.proofs.Common.{◌≡◌, ℕ, ◌+◌, ◌-◌, ◌<◌, ◌≤◌, Bool, false, List, [], length, get_or, ◌∙◌, arith, ⊎_elim, set, ap, length-set, get_or-set_same, get_or-set_other}
 use Rattle.std.proofs.lemmas.List.{get_or_default}
 use Rattle.std.proofs.lemmas.Bool.{cases_eq, cases_lt}
 use Rattle.cam_chain.specs.ChainValue.{EachLong}
+
+-- a row that is lent has the rows' length
+pub lent_long : (n : ℕ) (rows : List (List Bool)) (k : ℕ) (row : List Bool) → EachLong n rows → k < length rows → row ≡ get_or rows k row → length row ≡ n
+lent_long n rows k row long h e = ap length (e ∙ get_or_default rows k row [] h) ∙ long k h
 
 -- a row written in the place of another of its length
 pub set-long : (n : ℕ) (rows : List (List Bool)) (i : ℕ) (row old : List Bool) → EachLong n rows → i < length rows → length row ≡ length (get_or rows i old) → EachLong n (set rows i row)

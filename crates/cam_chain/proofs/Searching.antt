@@ -4,7 +4,8 @@ use Rattle.std.specs.Int.{bit_at}
 use Rattle.std.proofs.lemmas.List.{get_or_default}
 use Rattle.std.proofs.lemmas.Nat.Bits.{shr_and_one}
 use Rattle.std.proofs.lemmas.Bool.{cases_lt, cases_Bool, cases_eq, ltb-true, and_parts, eq-eqb, ne_eqb}
-use Rattle.cam_chain.specs.Slices.{matches, selected, searched, placed}
+use Rattle.bit_rows.specs.Slices.{placed}
+use Rattle.cam_chain.specs.Slices.{matches, selected, searched}
 use Rattle.cam_chain.specs.ChainValue.{ChainValue, slices_of, row_bit, EachLong}
 use Rattle.cam_chain.proofs.SlicesLemmas.{same_slices}
 
@@ -47,6 +48,16 @@ not_selected subs i h = ne_eqb (bit_at subs i) 1 (λ q. h (shr_and_one subs i �
 -- the same, where it is 1
 pub is_selected : (subs i : ℕ) → bit_and (subs / 2 ^ i) 1 ≡ 1 → selected subs i ≡ true
 is_selected subs i h = eq-eqb (bit_at subs i) 1 (sym (shr_and_one subs i) ∙ h)
+
+-- a tag that is joined with the match
+pub joined : (join tag matched wanted : Bool) → join ≡ true → matched ≡ wanted → tag || matched ≡ wanted || (join && tag)
+joined join tag matched wanted j e = rw (j, e) (swapped tag wanted)
+  where
+    swapped : (a b : Bool) → a || b ≡ b || a
+    swapped true true = refl
+    swapped true false = refl
+    swapped false true = refl
+    swapped false false = refl
 
 -- the next subarray is not selected
 pub search_skip : (n : ℕ) (rows : List (List Bool)) (subs : ℕ) (keys : List (ℕ × Bool)) (join : Bool) (tags : List (List Bool)) (i : ℕ) (now : List (List Bool))

@@ -1,6 +1,6 @@
 -- Slices by their parts.
 use Rattle.std.proofs.Common.{◌≡◌, ℕ, refl}
-use Rattle.cam_chain.specs.Slices.{Slices}
+use Rattle.bit_rows.specs.Slices.{Slices}
 use Rattle.cam_chain.specs.ChainValue.{ChainValue, slices_of}
 
 -- slices with the same parts are the same

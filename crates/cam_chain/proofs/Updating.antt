@@ -2,7 +2,8 @@
 use Rattle.std.proofs.Common.{◌≡◌, ℕ, ◌+◌, ◌*◌, ◌/◌, ◌^◌, ◌<◌, ◌≤◌, Bool, true, false, cond, ◌&&◌, eqb, ltb, List, [], length, get_or, refl, ◌∙◌, arith, ⊎_elim, bit_and, set, length-set, get_or-set_same, get_or-set_other}
 use Rattle.std.proofs.lemmas.List.{get_or_default}
 use Rattle.std.proofs.lemmas.Bool.{cases_lt, cases_eq, cases_Bool, ltb-true, and_parts, lt-ltb, le-ltb, eq-eqb, ne_eqb}
-use Rattle.cam_chain.specs.Slices.{updated, placed, selected}
+use Rattle.bit_rows.specs.Slices.{placed}
+use Rattle.cam_chain.specs.Slices.{updated, selected}
 use Rattle.cam_chain.specs.ChainValue.{ChainValue, slices_of, EachLong}
 use Rattle.cam_chain.proofs.SlicesLemmas.{same_slices}
 use Rattle.cam_chain.proofs.Searching.{is_selected, not_selected}

@@ -4,7 +4,8 @@ use Rattle.std.specs.Int.{bit_at}
 use Rattle.std.proofs.lemmas.List.{get_or_default}
 use Rattle.std.proofs.lemmas.Nat.Bits.{shr_and_one, bit_at_set_same, bit_at_set_other}
 use Rattle.std.proofs.lemmas.Bool.{cases_lt, cases_eq, cases_Bool, ltb-true, and_parts, lt-ltb, le-ltb, eq-eqb, ne_eqb}
-use Rattle.cam_chain.specs.Slices.{word_written, placed}
+use Rattle.bit_rows.specs.Slices.{placed}
+use Rattle.cam_chain.specs.Slices.{word_written}
 use Rattle.cam_chain.specs.ChainValue.{ChainValue, slices_of, EachLong}
 use Rattle.cam_chain.proofs.SlicesLemmas.{same_slices}
 

@@ -1,7 +1,7 @@
 -- What contracts see of a chain.
 use Rattle.std.specs.Prelude.{◌≡◌, ℕ, ◌+◌, ◌*◌, ◌<◌, Bool, false, cond, List, [], length, slice_index_or}
 use lib.Dec.{ltb}
-use Rattle.cam_chain.specs.Slices.{Slices, placed}
+use Rattle.bit_rows.specs.Slices.{Slices, placed}
 use Rattle.cam_chain.specs.declared.counts.Counts.{Counts}
 
 -- The columns, the rows, of which row 64 * sub + row is the row of the subarray, the tags of each subarray, and how

@@ -1,29 +1,14 @@
--- The state of the slices, and what a search, an update, a pass and a written word do to it. Every write is guarded:
--- a place outside the chain never changes.
-use Rattle.std.specs.Prelude.{ℕ, ◌+◌, ◌-◌, Bool, true, false, cond, ◌&&◌, ◌||◌, eqb, List, [], ◌∷◌}
+-- What a search, an update, a pass and a written word do to the slices. Every write is guarded: a place outside the chain
+-- never changes.
+use Rattle.std.specs.Prelude.{ℕ, ◌+◌, ◌-◌, Bool, true, cond, ◌&&◌, ◌||◌, eqb, List, [], ◌∷◌}
 use Rattle.std.specs.Int.{bit_at}
 use lib.Dec.{ltb, leb}
 use mathlib.Core.Bool.{beq}
-
--- the number of columns, the bit of each subarray, row and column, the tag of each subarray and column, and the
--- control number, which no search, update or pass changes
-pub record Slices : Type 0 where
-  pub columns : ℕ
-  pub bit : ℕ → ℕ → ℕ → Bool
-  pub tag : ℕ → ℕ → Bool
-  pub num : ℕ
-
--- slices whose bits, tags and control number are all zero
-abbrev pub blank : ℕ → Slices
-blank columns = record { columns = columns; bit = λ sub row col. false; tag = λ sub col. false; num = 0 }
+use Rattle.bit_rows.specs.Slices.{Slices, placed}
 
 -- subarray sub is in the set
 abbrev pub selected : ℕ → ℕ → Bool
 selected subs sub = eqb (bit_at subs sub) 1
-
--- the place is one of the chain's
-abbrev pub placed : ℕ → ℕ → ℕ → Bool
-placed columns sub col = ltb sub 32 && ltb col columns
 
 -- each key's row has the wanted bit
 abbrev pub matches : (ℕ → Bool) → List (ℕ × Bool) → Bool

@@ -2,7 +2,7 @@
 use Rattle.std.specs.Prelude.{ℕ, ◌+◌, ◌*◌, ◌/◌, ◌%◌, List}
 use Rattle.bit_laws.specs.Numbers.{number}
 use Rattle.bit_laws.specs.Lists.{tabulate}
-use Rattle.cam_chain.specs.Slices.{Slices}
+use Rattle.bit_rows.specs.Slices.{Slices}
 
 -- byte j of register r: its bit b is the bit of subarray 8 (j mod 4) + b, row r, column j div 4
 abbrev pub register_byte : Slices → ℕ → ℕ → ℕ

@@ -1,11 +1,12 @@
 ghost use Rattle.std.specs.Prelude.{◌≡◌, ℕ, ◌+◌, ◌-◌, ◌*◌, ◌^◌, ◌<◌, ◌≤◌, List, [], Bool, true, false, ◌&&◌, ◌||◌, eqb, length, replicate, slice_index_or, IfOk};
 ghost use Rattle.std.specs.Int.{bit_at};
-ghost use Rattle.cam_chain.specs.Slices.{blank, matches, searched, updated, passed, word_written};
+ghost use Rattle.bit_rows.specs.Slices.{blank};
+ghost use Rattle.cam_chain.specs.Slices.{matches, searched, updated, passed, word_written};
 ghost use Rattle.cam_chain.specs.ChainValue.{slices_of, no_counts, row_bit, EachLong};
 
 use crate::counts::Counts;
 use crate::keys::Keys;
-use crate::row::Row;
+use bit_rows::{Planes, Row};
 use std::alloc::{AllocError as NoMemory, Global};
 use std::marker::Model;
 
@@ -195,6 +196,16 @@ impl Chain {
         }
     }
 
+    /// Becomes the other chain, which has as many columns: the rows, tags and counts are equal.
+    pub fn copy_from(&mut self, other: &Chain)
+        requires { self.old.columns ≡ other.now.columns }
+        ensures { self.new ≡ other.now }
+    {
+        copy_rows(self.rows.as_mut_slice(), other.rows.as_slice());
+        copy_rows(self.tags.as_mut_slice(), other.tags.as_slice());
+        self.counts = other.counts;
+    }
+
     fn pass_up(&mut self, times: u8)
         requires few { times ≤ 31 }
         requires counter { self.old.counts.passes < 2 ^ 100 }
@@ -220,6 +231,33 @@ impl Chain {
     }
 }
 
+/// A network sees the chain's bits and tags, and leaves its counts.
+impl Planes for Chain {
+    ghost slices = { slices_of };
+
+    ghost searches = { λ chain. chain.counts.searches };
+
+    ghost updates = { λ chain. chain.counts.updates };
+
+    ghost passes = { λ chain. chain.counts.passes };
+
+    fn columns(&self) -> u32 {
+        self.columns
+    }
+
+    fn bit(&self, sub: u8, row: u8, col: u32) -> bool {
+        self.row(sub, row).get(col)
+    }
+
+    fn set_bit(&mut self, sub: u8, row: u8, col: u32, bit: bool) {
+        self.rows[sub as usize * 64 + row as usize].set(col, bit);
+    }
+
+    fn tag(&self, sub: u8, col: u32) -> bool {
+        self.tags(sub).get(col)
+    }
+}
+
 /// So many rows of zeros.
 fn zero_rows(alloc: Global, count: u32, columns: u32) -> Result<Vec<Row>, NoMemory>
     requires some { 1 ≤ columns }
@@ -231,6 +269,18 @@ fn zero_rows(alloc: Global, count: u32, columns: u32) -> Result<Vec<Row>, NoMemo
         rows.push(Row::new(alloc, columns)?)?;
     }
     Ok(rows)
+}
+
+/// Each row becomes the one at its place in `from`.
+fn copy_rows(rows: &mut [Row], from: &[Row])
+    requires len { length rows.old ≡ length from.now }
+    requires long { (k : ℕ) → k < length from.now
+        → length (slice_index_or rows.old k []) ≡ length (slice_index_or from.now k []) }
+    ensures { rows.new ≡ from.now }
+{
+    for i in 0..rows.len() {
+        rows[i].copy_from(&from[i]);
+    }
 }
 
 /// Leaves in `into` the columns where each key's row has the wanted bit.
@@ -427,6 +477,54 @@ mod tests {
         chain.pass(false, 31);
         assert_eq!(rt; tag_word(&chain, 0), 1);
         assert_eq!(rt; chain.counts().passes, 72);
+        Ok(())
+    }
+
+    #[test]
+    fn copies_are_equal(rt: HostRuntime) -> Result<(), Fail> {
+        let mut chain = Chain::new(rt.alloc(), 2)?;
+        chain.write_word(9, 1, 0x8000_0001);
+        let nine = Keys::new(&[(9, true)]).ok_or("nine")?;
+        chain.search(0xffff_ffff, &nine, false);
+        chain.pass(true, 3);
+        let mut copy = Chain::new(rt.alloc(), 2)?;
+        copy.write_word(8, 0, 7);
+        copy.copy_from(&chain);
+        assert_eq!(rt;
+            [copy.read_word(9, 1), copy.read_word(8, 0)],
+            [0x8000_0001, 0]
+        );
+        assert_eq!(rt; tag_word(&copy, 1), 8);
+        let counts = Counts {
+            searches: 1,
+            updates: 0,
+            passes: 3,
+        };
+        assert_eq!(rt; copy.counts(), counts);
+        Ok(())
+    }
+
+    /// Sets a bit as a network does, and gives the tag beside it.
+    fn set_through<P: Planes>(planes: &mut P, sub: u8, row: u8, col: u32) -> bool
+        requires sub { sub < 32 }
+        requires row { row < 64 }
+        requires column { col < (P.slices planes.old).columns }
+        ensures columns { (P.slices planes.new).columns ≡ (P.slices planes.old).columns }
+    {
+        planes.set_bit(sub, row, col, true);
+        planes.tag(sub, col)
+    }
+
+    #[test]
+    fn networks_write_bits(rt: HostRuntime) -> Result<(), Fail> {
+        let mut chain = Chain::new(rt.alloc(), 2)?;
+        let every = Keys::new(&[]).ok_or("every")?;
+        chain.search(0x10, &every, false);
+        let counts = chain.counts();
+        assert!(rt; set_through(&mut chain, 4, 9, 1));
+        assert!(rt; !set_through(&mut chain, 5, 9, 1));
+        assert_eq!(rt; [chain.read_word(9, 0), chain.read_word(9, 1)], [0, 0x30]);
+        assert_eq!(rt; chain.counts(), counts);
         Ok(())
     }
 }

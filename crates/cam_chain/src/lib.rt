@@ -4,9 +4,7 @@
 mod chain;
 mod counts;
 mod keys;
-mod row;
 
 pub use chain::Chain;
 pub use counts::Counts;
 pub use keys::Keys;
-pub use row::Row;

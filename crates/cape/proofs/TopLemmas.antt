@@ -9,8 +9,9 @@ use Rattle.elf_load.specs.Fields.{entry}
 use Rattle.elf_load.specs.Layout.{regions, span_of}
 use Rattle.elf_load.specs.declared.faults.LoadFault.{LoadFault}
 use Rattle.elf_load.specs.declared.loaded.Loaded.{Loaded}
-use Rattle.cam_chain.specs.Slices.{blank}
+use Rattle.bit_rows.specs.Slices.{blank}
 use Rattle.cam_chain.specs.ChainValue.{slices_of}
+use Rattle.vtype_cfg.specs.declared.configuration.Policy.{Policy}
 use Rattle.rvv_meaning.specs.declared.Mode.{Mode}
 use Rattle.rvv_meaning.specs.declared.Mode.TheVariants.{Running, Exited, Trapped, Unbuilt}
 use Rattle.rvv_meaning.specs.States.{State, Core}
@@ -26,7 +27,7 @@ use Rattle.cape.specs.declared.ending.Status.TheVariants.{Done, Trapped as HasTr
 use Rattle.cape.specs.declared.words.Command.{Command}
 use Rattle.cape.specs.declared.words.Command.TheVariants.{Run, Check}
 use Rattle.cape.specs.declared.words.RunOptions.{RunOptions}
-use Rattle.cape.specs.Endings.{Ending, IsEnded, IsFault, IsOfRun, KeepsMachine, ending, ending_from, refused, checked, status_for_answer, held_for, vlen}
+use Rattle.cape.specs.Endings.{Ending, IsEnded, IsFault, IsOfRun, KeepsMachine, ending, ending_from, refused, checked, status_for_answer, held_for}
 use Rattle.cape.specs.Layouts.{layout_text}
 use Rattle.cape.specs.Reading.{IsLoadedFrom}
 
@@ -39,14 +40,14 @@ refused_ends command image input f is = rw is refl
 abbrev pub memory_in : Loaded → Memory
 memory_in l = memory_of l.regions l.heap l.heap_end
 
-pub start_loaded : (image input : List ℕ) (l : Loaded) → IsLoadedFrom image l → start image vlen input ≡ start_state vlen l.entry_pc (memory_in l) input
+pub start_loaded : (vlen : ℕ) (policy : Policy) (image input : List ℕ) (l : Loaded) → IsLoadedFrom image l → start image vlen policy input ≡ start_state vlen policy l.entry_pc (memory_in l) input
 unfolding start
-start_loaded image input l from = rw (from.entry_pc, from.regions_are, from.heap_is, from.heap_end_is) refl
+start_loaded vlen policy image input l from = rw (from.entry_pc, from.regions_are, from.heap_is, from.heap_end_is) refl
 
 -- a run of an image ends as a run of what was loaded of it
-pub run_ends : (options : RunOptions) (image input : List ℕ) (l : Loaded) → IsLoadedFrom image l → ending (Run options) image input ≡ ending_from options (start_state vlen l.entry_pc (memory_in l) input)
+pub run_ends : (options : RunOptions) (image input : List ℕ) (l : Loaded) → IsLoadedFrom image l → ending (Run options) image input ≡ ending_from options (start_state options.vlen options.policy l.entry_pc (memory_in l) input)
 unfolding ending
-run_ends options image input l from = rw from.sound (ap (ending_from options) (start_loaded image input l from))
+run_ends options image input l from = rw from.sound (ap (ending_from options) (start_loaded options.vlen options.policy image input l from))
 
 -- a check of an image shows what was loaded of it
 pub check_ends : (image input : List ℕ) (l : Loaded) → IsLoadedFrom image l → ending Check image input ≡ record (checked image input) { out = layout_text l.entry_pc (map span_of l.regions) }
@@ -54,21 +55,12 @@ unfolding ending
 check_ends image input l from = rw (from.sound, from.entry_pc, from.regions_are) refl
 
 -- a machine at its start shows the first moment
-pub shows_start : (pc : ℕ) (mem : Memory) (input : List ℕ) (machine : Held) (left out err : Option (List ℕ)) → left ≡ Some input
-    → machine.core ≡ start_core vlen pc mem → slices_of machine.chain ≡ blank (vlen / 32) → machine.last ≡ []
-    → Shows false (first_moment (start_state vlen pc mem input)) machine left out out err err
+pub shows_start : (vlen : ℕ) (policy : Policy) (pc : ℕ) (mem : Memory) (input : List ℕ) (machine : Held) (left out err : Option (List ℕ)) → left ≡ Some input
+    → machine.core ≡ start_core vlen policy pc mem → slices_of machine.chain ≡ blank (vlen / 32) → machine.last ≡ []
+    → Shows false (first_moment (start_state vlen policy pc mem input)) machine left out out err err
 unfolding start_state start_core
-shows_start pc mem input machine left out err told core slices last =
+shows_start vlen policy pc mem input machine left out err told core slices last =
     record { holds = sym core; slices = sym slices; last = sym last; told = told; gained_out = appends_none out; gained_err = appends_none err }
-
--- it runs, and nothing has retired
-pub start-running : (machine : Held) (pc : ℕ) (mem : Memory) → machine.core ≡ start_core vlen pc mem → machine.core.mode ≡ Running
-unfolding start_core
-start-running machine pc mem is = ap (λ (c : Core). c.mode) is
-
-pub start-fresh : (machine : Held) (pc : ℕ) (mem : Memory) → machine.core ≡ start_core vlen pc mem → machine.core.csrs.retired ≡ 0
-unfolding start_core
-start-fresh machine pc mem is = ap (λ (c : Core). c.csrs.retired) is
 
 pub front_put : (line : List ℕ) (first held : Option (List ℕ)) → PutsFront first held line → GainsFront first held line
 front_put line first held put = (take put.0 line, put.2, (drop put.0 line, sym (take-append-drop put.0 line)))

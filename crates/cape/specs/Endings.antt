@@ -5,7 +5,7 @@ use Rattle.elf_load.specs.Faults.{fault}
 use Rattle.elf_load.specs.Fields.{entry}
 use Rattle.elf_load.specs.Layout.{regions, span_of}
 use Rattle.elf_load.specs.declared.faults.LoadFault.{LoadFault}
-use Rattle.cam_chain.specs.Slices.{Slices}
+use Rattle.bit_rows.specs.Slices.{Slices}
 use Rattle.cam_chain.specs.ChainValue.{slices_of}
 use Rattle.rvv_meaning.specs.declared.Mode.{Mode}
 use Rattle.rvv_meaning.specs.declared.Mode.TheVariants.{Running, Exited, Trapped, Unbuilt}
@@ -69,10 +69,6 @@ pub record IsAt (k : Kept) (machine : Held) : Type 0 where
 abbrev pub Keeps : Option Kept → Option Held → Type 0
 Keeps None kept = kept ≡ None
 Keeps (Some k) kept = MatchOption kept ⊥ (IsAt k)
-
--- the length of a vector register in bits
-abbrev pub vlen : ℕ
-vlen = 1024
 
 -- the status is one that a run's state gives
 abbrev pub IsOfRun : Status → Type 0
@@ -176,7 +172,7 @@ checked image input = record { status = Done; kept = None; left = input; out = l
 
 -- how a command ends whose image has no fault
 abbrev pub ending_loaded : Command → List ℕ → List ℕ → Ending
-ending_loaded (Run options) image input = ending_from options (start image vlen input)
+ending_loaded (Run options) image input = ending_from options (start image options.vlen options.policy input)
 ending_loaded Check image input = checked image input
 
 -- how a command on an image ends: refused by the image's first fault, or as the image says
@@ -206,5 +202,5 @@ ReadsWithin s n = (k : ℕ) × (k < n) × CallsAt (run s k).core × IsReading (r
 
 -- The command is a run of an image without a fault, and some step of it reads the input.
 abbrev pub ReadsInput : Command → List ℕ → List ℕ → Type 0
-ReadsInput (Run options) image input = (fault image ≡ None) × ReadsWithin (start image vlen input) options.steps
+ReadsInput (Run options) image input = (fault image ≡ None) × ReadsWithin (start image options.vlen options.policy input) options.steps
 ReadsInput Check image input = ⊥

@@ -5,8 +5,8 @@ ghost use Rattle.cape_io.specs.Devices.{Rose, Present, PutsFront, word_at};
 ghost use Rattle.rvv_meaning.specs.Images.{start_state};
 ghost use Rattle.rvv_meaning.specs.Texts.{usage_line};
 ghost use Rattle.machine.specs.Opening.{memory_of};
-ghost use Rattle.cape.specs.Endings.{IsOfRun, IsEnded, IsFault, IsRefused, KeepsMachine, EndsBy, FaultsBefore, ReadsWithin, ReadsInput, ending, ending_from, vlen};
-ghost use Rattle.cape.specs.Grammar.{command_of as command_in, most_steps, IsInRange, IsRun};
+ghost use Rattle.cape.specs.Endings.{IsOfRun, IsEnded, IsFault, IsRefused, KeepsMachine, EndsBy, FaultsBefore, ReadsWithin, ReadsInput, ending, ending_from};
+ghost use Rattle.cape.specs.Grammar.{command_of as command_in, AreInRange, IsInRange, IsRun};
 ghost use Rattle.elf_load.specs.Layout.{span_of};
 ghost use Rattle.cape.specs.Layouts.{layout_text};
 ghost use Rattle.cape.specs.Lines.{refused_line as line_for};
@@ -22,11 +22,7 @@ use crate::words::{Command, RunOptions, command_of};
 use cape_io::{Files, Sink, Source};
 use elf_load::{LoadFault, Loaded};
 use machine::Machine;
-use rvv_meaning::Policy;
 use std::alloc::Global;
-
-// The length of a vector register in bits.
-const VLEN: u32 = 1024;
 
 // The place of the operand among the words.
 const OPERAND: usize = 1;
@@ -56,16 +52,16 @@ fn run_loaded<S: Source, O: Sink, E: Sink>(
     err: &mut E,
     kept: &mut Option<Machine>,
 ) -> Status
-    requires few { options.steps ≤ most_steps }
+    requires range { AreInRange options }
     requires none { kept.old ≡ None }
     ensures ends { IsOfRun result → (input_bytes : List ℕ) → S.left input.old ≡ Some input_bytes
-        → EndsBy (ending_from options (start_state vlen loaded.entry_pc (memory_of loaded.regions loaded.heap loaded.heap_end) input_bytes)) result kept.new (S.left input.new) (O.held out.old) (O.held out.new) (E.held err.old) (E.held err.new) }
+        → EndsBy (ending_from options (start_state options.vlen options.policy loaded.entry_pc (memory_of loaded.regions loaded.heap loaded.heap_end) input_bytes)) result kept.new (S.left input.new) (O.held out.old) (O.held out.new) (E.held err.old) (E.held err.new) }
     ensures fronts { IsFault result → (input_bytes : List ℕ) → S.left input.old ≡ Some input_bytes
-        → FaultsBefore (ending_from options (start_state vlen loaded.entry_pc (memory_of loaded.regions loaded.heap loaded.heap_end) input_bytes)) (O.held out.old) (O.held out.new) (E.held err.old) (E.held err.new) }
+        → FaultsBefore (ending_from options (start_state options.vlen options.policy loaded.entry_pc (memory_of loaded.regions loaded.heap loaded.heap_end) input_bytes)) (O.held out.old) (O.held out.new) (E.held err.old) (E.held err.new) }
     ensures only { IsOfRun result ⊎ (IsFault result ⊎ (result ≡ Status.NoMemory)) }
     ensures read { result ≡ Status.ReadFault → Rose (S.faults input.old) (S.faults input.new) }
     ensures reads { result ≡ Status.ReadFault → (input_bytes : List ℕ) → S.left input.old ≡ Some input_bytes
-        → ReadsWithin (start_state vlen loaded.entry_pc (memory_of loaded.regions loaded.heap loaded.heap_end) input_bytes) options.steps }
+        → ReadsWithin (start_state options.vlen options.policy loaded.entry_pc (memory_of loaded.regions loaded.heap loaded.heap_end) input_bytes) options.steps }
     ensures nothing { result ≡ Status.NoMemory → Appends (O.held out.old) (O.held out.new) [] × Appends (E.held err.old) (E.held err.new) [] }
     ensures kept { KeepsMachine result ⊎ (kept.new ≡ None) }
     ensures write { result ≡ Status.WriteFault → Rose (O.faults out.old) (O.faults out.new) ⊎ Rose (E.faults err.old) (E.faults err.new) }
@@ -73,7 +69,7 @@ fn run_loaded<S: Source, O: Sink, E: Sink>(
     ensures later_out { O.faults out.old ≤ O.faults out.new }
     ensures later_err { E.faults err.old ≤ E.faults err.new }
 {
-    match Machine::new(alloc, loaded, VLEN, Policy::Keep) {
+    match Machine::new(alloc, loaded, options.vlen, options.policy) {
         Ok(machine) => run_machine(machine, options, input, out, err, kept),
         Err(_) => Status::NoMemory,
     }
@@ -105,7 +101,7 @@ fn do_command<F: Files, S: Source, O: Sink, E: Sink>(
     kept: &mut Option<Machine>,
 ) -> Status
     requires place { place < length (F.names files.old) }
-    requires few { IsInRange command }
+    requires range { IsInRange command }
     requires none { kept.old ≡ None }
     ensures ends { IsEnded result → (image input_bytes : List ℕ) → F.told files.old (word_at (F.names files.old) place) ≡ Present image → S.left input.old ≡ Some input_bytes
         → EndsBy (ending command image input_bytes) result kept.new (S.left input.new) (O.held out.old) (O.held out.new) (E.held err.old) (E.held err.new) }

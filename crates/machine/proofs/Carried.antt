@@ -1,27 +1,33 @@
 -- Each kind of instruction, carried out by its method, is a step.
 use Rattle.std.proofs.Common.{◌≡◌, ℕ, ◌≤◌, Bool, true, false, List, [], ◌++◌, length, take, Option, Some, None, refl, sym, ap, ◌∙◌, append-nil, arith}
-use Rattle.std.specs.Prelude.{if◌then◌else◌, nat_eq}
+use Rattle.std.specs.Prelude.{if◌then◌else◌, nat_eq, is_some}
 use Rattle.std.specs.Io.KnownBytes.{Appends, Consumes}
 use Rattle.cape_io.specs.Devices.{PutsFront}
 use Rattle.cam_chain.specs.ChainValue.{slices_of}
 use Rattle.micro_ir.specs.declared.op.MicroOp.{MicroOp}
 use Rattle.micro_ir.specs.Replay.{replay}
 use Rattle.rv32_decode.specs.declared.instruction.Instr.{Instr}
-use Rattle.rvv_meaning.specs.declared.VOp.{VOp}
-use Rattle.rvv_meaning.specs.declared.VOp.TheVariants.{Vsetivli, VxorVv, VmvVx}
-use Rattle.rvv_meaning.specs.declared.VInstr.{VInstr}
+use Rattle.rvv_decode.specs.declared.instruction.ConfigOp.{ConfigOp}
+use Rattle.rvv_decode.specs.declared.instruction.Form.{Form}
+use Rattle.rvv_decode.specs.declared.instruction.OpiOp.{OpiOp}
+use Rattle.rvv_decode.specs.declared.instruction.OpiOp.TheVariants.{Vand, Vor, Vxor, VmvV}
+use Rattle.rvv_decode.specs.declared.instruction.VInstr.{VInstr}
+use Rattle.rvv_decode.specs.declared.instruction.VOp.{VOp}
+use Rattle.rvv_decode.specs.declared.instruction.VOp.TheVariants.{Opi, Opm, Config, Memory}
 use Rattle.rvv_meaning.specs.declared.Meaning.TheVariants.{Scalar, Vector}
 use Rattle.rvv_meaning.specs.declared.Mode.{Mode}
 use Rattle.rvv_meaning.specs.declared.Flow.{Flow}
 use Rattle.rvv_meaning.specs.declared.Flow.TheVariants.{Call as Calls}
 use Rattle.rvv_meaning.specs.declared.Next.TheVariants.{Stop, Perform}
 use Rattle.rvv_meaning.specs.Calls.{first, named_call, asked_by, put_by}
-use Rattle.rvv_meaning.specs.States.{Core, next, core_after, call_at, call_by, asked, puts, effect_at, with_effect, after_flow, executed_vector, called, configured, elementwise, scalar_operand, reg}
+use Rattle.rvv_meaning.specs.States.{Core, next, core_after, call_at, call_by, asked, puts, effect_at, with_effect, after_flow, executed_vector, called, cfg_at, configured, elementwise, reg}
+use Rattle.rvv_meaning.specs.Arithmetic.{value_of}
+use Rattle.rvv_meaning.specs.Vectors.{scalar_operand, on_elements_is_built}
 use Rattle.rvv_meaning.proofs.Calling.{Rests, executed-rests}
 use Rattle.guest_env.specs.Inputs.{Takes}
 use Rattle.guest_env.specs.Outputs.{bytes_out, bytes_err}
-use Rattle.vec_exec.specs.Programs.{prog, is_engine}
-use Rattle.machine.specs.Moments.{Held, program_at}
+use Rattle.vec_exec.specs.Programs.{prog, is_engine, is_engine_op, is_opi_engine}
+use Rattle.machine.specs.Moments.{Held, program_at, control_by}
 use Rattle.machine.specs.Views.{gains_out, gains_err}
 use Rattle.machine.specs.Carrying.{Carries, Fails}
 
@@ -86,13 +92,32 @@ call_puts i c there is = rw (there, is) refl
 pub emptied : (old new : Held) (core : Core) → old.last ≡ [] → new ≡ record old { core = core } → new ≡ record old { core = core; last = [] }
 emptied old new core none is = is ∙ ap (λ (ops : List MicroOp). record old { core = core; last = ops }) none
 
+opi-runs : (op : OpiOp) (form : Form) → is_some (value_of op) ≡ true → is_opi_engine op form ≡ true
+unfolding value_of
+opi-runs Vand form on = refl
+opi-runs Vor form on = refl
+opi-runs Vxor form on = refl
+opi-runs VmvV form on = refl
+opi-runs _ form on = cc
+
+-- an instruction on elements that is built has a program
+engine-runs : (op : VOp) (form : Form) → on_elements_is_built op ≡ true → is_engine_op op form ≡ true
+engine-runs (Opi op) form on = opi-runs op form on
+engine-runs (Opm op) form on = cc
+engine-runs (Config op) form on = cc
+engine-runs (Memory op) form on = cc
+
+runs-program : (i : VInstr) → on_elements_is_built i.op ≡ true → is_engine i ≡ true
+unfolding is_engine
+runs-program i on = engine-runs i.op i.form on
+
 module _ (merged : Bool) (old new : Held) (left out err : Option (List ℕ)) where
   -- the machine stopped
   pub carries-stop : (mode : Mode) → next old.core ≡ Stop mode → new ≡ record old { core = record old.core { mode = mode }; last = [] } → Carries merged old new [] left left out out err err
   unfolding core_after program_at call_at
   carries-stop mode there is =
       let none : call_at old.core ≡ None = rw there refl in
-      rw is record { core = rw there refl; slices = rw there refl; last = rw there refl; live = refl; took = quiet_takes old.core left none; gained_out = quiet_out merged old.core out none; gained_err = quiet_err merged old.core err none }
+      rw is record { core = rw there refl; slices = rw there refl; last = rw there refl; control = rw there refl; live = refl; took = quiet_takes old.core left none; gained_out = quiet_out merged old.core out none; gained_err = quiet_err merged old.core err none }
 
   -- a scalar instruction that is no call
   pub carries-scalar : (i : Instr) (flow : Flow) → next old.core ≡ Perform (Scalar i) → (effect_at i old.core).flow ≡ flow → call_by flow old.core.regs ≡ None
@@ -100,44 +125,44 @@ module _ (merged : Bool) (old new : Held) (left out err : Option (List ℕ)) whe
   unfolding core_after program_at call_at
   carries-scalar i flow there goes plain is =
       let none : call_at old.core ≡ None = rw (there, goes) plain in
-      rw is record { core = rw (there, goes) refl; slices = rw there refl; last = rw there refl; live = refl; took = quiet_takes old.core left none; gained_out = quiet_out merged old.core out none; gained_err = quiet_err merged old.core err none }
+      rw is record { core = rw (there, goes) refl; slices = rw there refl; last = rw there refl; control = rw there refl; live = refl; took = quiet_takes old.core left none; gained_out = quiet_out merged old.core out none; gained_err = quiet_err merged old.core err none }
 
   -- a configuration
-  pub carries-configuration : (i : VInstr) → next old.core ≡ Perform (Vector i) → is_engine i.op ≡ false → new ≡ record old { core = configured i old.core; last = [] } → Carries merged old new [] left left out out err err
-  unfolding core_after program_at call_at
-  carries-configuration i there plain is =
+  pub carries-configuration : (op : ConfigOp) (i : VInstr) → next old.core ≡ Perform (Vector i) → i.op ≡ Config op → new ≡ record old { core = configured op i old.core; last = [] }
+      → Carries merged old new [] left left out out err err
+  unfolding core_after program_at call_at is_engine
+  carries-configuration op i there named is =
       let none : call_at old.core ≡ None = rw there refl in
-      rw is record { core = rw there (sym (settles i.op plain)); slices = rw (there, plain) refl; last = rw (there, plain) refl; live = refl; took = quiet_takes old.core left none; gained_out = quiet_out merged old.core out none; gained_err = quiet_err merged old.core err none }
-    where
-      settles : (op : VOp) → is_engine op ≡ false → executed_vector op i old.core ≡ configured i old.core
-      settles Vsetivli plain = refl
-      settles VxorVv plain = cc
-      settles VmvVx plain = cc
+      rw is record { core = rw (there, named) refl; slices = rw (there, named) refl; last = rw (there, named) refl; control = rw (there, named) refl; live = refl; took = quiet_takes old.core left none; gained_out = quiet_out merged old.core out none; gained_err = quiet_err merged old.core err none }
 
-  -- an instruction with a program
-  pub carries-program : (i : VInstr) → next old.core ≡ Perform (Vector i) → is_engine i.op ≡ true
+  -- an instruction on elements
+  pub carries-program : (i : VInstr) → next old.core ≡ Perform (Vector i) → on_elements_is_built i.op ≡ true
       → new.core ≡ elementwise i old.core
-      → slices_of new.chain ≡ replay (prog i old.core.csrs (scalar_operand i.op i old.core)) (record (slices_of old.chain) { num = 0 })
-      → new.last ≡ prog i old.core.csrs (scalar_operand i.op i old.core)
+      → slices_of new.chain ≡ replay (prog i (cfg_at old.core) (scalar_operand i old.core.regs)) (record (slices_of old.chain) { num = 0 })
+      → new.last ≡ prog i (cfg_at old.core) (scalar_operand i old.core.regs)
+      → new.control ≡ control_by (Some (prog i (cfg_at old.core) (scalar_operand i old.core.regs))) (slices_of old.chain) old.control
       → new.live ≡ old.live
       → Carries merged old new [] left left out out err err
   unfolding core_after program_at call_at
-  carries-program i there runs core slices last live =
+  carries-program i there on core slices last control live =
       let none : call_at old.core ≡ None = rw there refl in
+      let runs = runs-program i on in
       record {
-        core = core ∙ rw there (sym (works i.op runs));
+        core = core ∙ rw there (sym (works i.op on));
         slices = slices ∙ rw (there, runs) refl;
         last = last ∙ rw (there, runs) refl;
+        control = control ∙ rw (there, runs) refl;
         live = live;
         took = quiet_takes old.core left none;
         gained_out = quiet_out merged old.core out none;
         gained_err = quiet_err merged old.core err none;
       }
     where
-      works : (op : VOp) → is_engine op ≡ true → executed_vector op i old.core ≡ elementwise i old.core
-      works Vsetivli runs = cc
-      works VxorVv runs = refl
-      works VmvVx runs = refl
+      works : (op : VOp) → on_elements_is_built op ≡ true → executed_vector op i old.core ≡ elementwise i old.core
+      works (Opi op) on = refl
+      works (Opm op) on = refl
+      works (Config op) on = cc
+      works (Memory op) on = refl
 
 -- the bytes that the sinks gain of a call
 pub call_gains_out : (merged : Bool) (i : Instr) (c : Core) → next c ≡ Perform (Scalar i) → (effect_at i c).flow ≡ Calls → gains_out merged c ≡ bytes_out merged (first c.regs) (put_by (named_call c.regs) c.regs c.mem)
@@ -159,6 +184,7 @@ module _ (merged : Bool) (old new : Held) (left left' out out' err err' : Option
         core = rw (there, is, still i old.core is) refl;
         slices = rw there refl;
         last = rw there refl;
+        control = rw there refl;
         live = refl;
         took = rw (call_asks i old.core there is) took;
         gained_out = rw (call_gains_out merged i old.core there is) put_out;

@@ -6,3 +6,4 @@ pub mod Showing
 pub mod Runs
 pub mod Modes
 pub mod Engine
+pub mod Configurations

@@ -6,10 +6,10 @@ use Rattle.std.proofs.lemmas.Nat.{and_mask}
 use Rattle.bit_laws.specs.Numbers.{number, bit_of}
 use Rattle.bit_laws.proofs.Numbers.{number-same, number-part}
 use Rattle.bit_laws.proofs.Lists.{tabulate-constant}
-use Rattle.cam_chain.specs.Slices.{Slices, blank}
+use Rattle.bit_rows.specs.Slices.{Slices, blank}
 use Rattle.cam_chain.specs.Views.{register_byte, register_of, registers_of}
-use Rattle.rvv_meaning.specs.Vectors.{byte_at}
-use Rattle.vec_exec.proofs.Registers.{byte-here}
+use Rattle.element_ops.specs.Elements.{byte_at}
+use Rattle.frame_laws.proofs.Bytes.{byte-here}
 
 pub blank-registers : (columns size : ℕ) → size ≡ 4 * columns → registers_of (blank columns) ≡ replicate 32 (replicate size 0)
 unfolding registers_of

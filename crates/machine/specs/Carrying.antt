@@ -5,7 +5,7 @@ use Rattle.cape_io.specs.Devices.{PutsFront}
 use Rattle.cam_chain.specs.ChainValue.{slices_of}
 use Rattle.guest_env.specs.Inputs.{Takes}
 use Rattle.rvv_meaning.specs.States.{core_after, asked}
-use Rattle.machine.specs.Moments.{Held, program_at, slices_by, last_by}
+use Rattle.machine.specs.Moments.{Held, program_at, slices_by, last_by, control_by}
 use Rattle.machine.specs.Views.{CallsAt, gains_out, gains_err}
 
 -- A step was carried out that took these bytes of the input: the core is the one that the meaning gives, the slices are
@@ -14,6 +14,7 @@ pub record Carries (merged : Bool) (old new : Held) (taken : List ℕ) (left lef
   pub core : new.core ≡ core_after old.core taken
   pub slices : slices_of new.chain ≡ slices_by (program_at old.core) (slices_of old.chain)
   pub last : new.last ≡ last_by (program_at old.core)
+  pub control : new.control ≡ control_by (program_at old.core) (slices_of old.chain) old.control
   pub live : new.live ≡ old.live
   pub took : Takes (asked old.core) left left' taken
   pub gained_out : Appends out out' (gains_out merged old.core)

@@ -1,17 +1,28 @@
 -- What is known of an instruction that is to be carried out.
-use Rattle.std.specs.Prelude.{⊤}
+use Rattle.std.specs.Prelude.{◌≡◌, ⊤, true}
 use Rattle.rv32_decode.specs.Spelling.{IsSpelled}
+use Rattle.rvv_decode.specs.Ranges.{IsInRange}
+use Rattle.rvv_decode.specs.declared.instruction.VInstr.{VInstr}
+use Rattle.vtype_cfg.specs.Legality.{is_legal}
 use Rattle.rvv_meaning.specs.declared.Meaning.{Meaning}
 use Rattle.rvv_meaning.specs.declared.Meaning.TheVariants.{Scalar, Vector}
 use Rattle.rvv_meaning.specs.declared.Next.{Next}
 use Rattle.rvv_meaning.specs.declared.Next.TheVariants.{Stop, Perform}
-use Rattle.vec_exec.specs.Programs.{NamesRegisters}
+use Rattle.rvv_meaning.specs.States.{Core, vtype_at}
+use Rattle.rvv_meaning.specs.Vectors.{is_built}
 
--- a scalar instruction is that of some word, and the fields of a vector instruction name registers
-abbrev pub FieldsFit : Meaning → Type 0
-FieldsFit (Scalar i) = IsSpelled i
-FieldsFit (Vector i) = NamesRegisters i
+-- a vector instruction that a machine can carry out: its fields are as large as a word lets them be, and it is legal and
+-- built
+pub record VectorFits (c : Core) (i : VInstr) : Type 0 where
+  pub fields : IsInRange i
+  pub legal : is_legal i (vtype_at c) c.csrs.vstart ≡ true
+  pub built : is_built i.op ≡ true
 
-abbrev pub NextFits : Next → Type 0
-NextFits (Stop mode) = ⊤
-NextFits (Perform m) = FieldsFit m
+-- a scalar instruction is that of some word
+abbrev pub FieldsFit : Core → Meaning → Type 0
+FieldsFit c (Scalar i) = IsSpelled i
+FieldsFit c (Vector i) = VectorFits c i
+
+abbrev pub NextFits : Core → Next → Type 0
+NextFits c (Stop mode) = ⊤
+NextFits c (Perform m) = FieldsFit c m

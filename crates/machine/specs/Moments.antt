@@ -1,21 +1,24 @@
 -- Moments of a machine: its state with the state of its slices and the program of its last step.
-use Rattle.std.specs.Prelude.{◌≡◌, ℕ, zero, suc, ◌/◌, Bool, List, [], Option, Some, None, if◌then◌else◌}
-use Rattle.cam_chain.specs.Slices.{Slices, blank}
+use Rattle.std.specs.Prelude.{◌≡◌, ℕ, zero, suc, ◌/◌, Bool, false, List, [], Option, Some, None, if◌then◌else◌}
+use Rattle.bit_rows.specs.Slices.{Slices, blank}
 use Rattle.cam_chain.specs.ChainValue.{ChainValue}
+use Rattle.micro_ir.specs.declared.control.Control.{Control}
 use Rattle.micro_ir.specs.declared.op.MicroOp.{MicroOp}
 use Rattle.micro_ir.specs.Replay.{replay}
 use Rattle.rvv_meaning.specs.declared.Meaning.TheVariants.{Scalar, Vector}
 use Rattle.rvv_meaning.specs.declared.Next.{Next}
 use Rattle.rvv_meaning.specs.declared.Next.TheVariants.{Stop, Perform}
-use Rattle.rvv_meaning.specs.States.{Core, State, next, scalar_operand, step, is_running}
+use Rattle.rvv_meaning.specs.States.{Core, State, cfg_at, next, step, is_running}
+use Rattle.rvv_meaning.specs.Vectors.{scalar_operand}
 use Rattle.vec_exec.specs.Programs.{prog, is_engine}
 
 -- What contracts see of a machine: what it holds of the guest, the chain whose rows 0 to 31 are the vector registers,
--- the program of the last step, and whether no device failed in a step.
+-- the program of the last step, the control numbers of the last program, and whether no device failed in a step.
 pub record Held : Type 0 where
   pub core : Core
   pub chain : ChainValue
   pub last : List MicroOp
+  pub control : Control
   pub live : Bool
 
 -- a state, the state of the slices and the program of the last step
@@ -28,7 +31,7 @@ pub record Moment : Type 0 where
 abbrev pub program_of : Next → Core → Option (List MicroOp)
 program_of (Stop mode) c = None
 program_of (Perform (Scalar i)) c = None
-program_of (Perform (Vector i)) c = if is_engine i.op then Some (prog i c.csrs (scalar_operand i.op i c)) else None
+program_of (Perform (Vector i)) c = if is_engine i then Some (prog i (cfg_at c) (scalar_operand i c.regs)) else None
 
 -- the program of the instruction at pc
 unfoldable pub program_at : Core → Option (List MicroOp)
@@ -39,6 +42,12 @@ program_at c = program_of (next c) c
 abbrev pub slices_by : Option (List MicroOp) → Slices → Slices
 slices_by None s = s
 slices_by (Some ops) s = replay ops (record s { num = 0 })
+
+-- The control numbers after a step: those that a program leaves from the control number 0, and as they were where there is
+-- none. No operation that is built finds an element clipped.
+abbrev pub control_by : Option (List MicroOp) → Slices → Control → Control
+control_by None s k = k
+control_by (Some ops) s k = record { num = (replay ops (record s { num = 0 })).num; clip = false }
 
 -- the program that a step leaves: none where it planned none
 abbrev pub last_by : Option (List MicroOp) → List MicroOp

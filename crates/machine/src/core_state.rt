@@ -1,31 +1,35 @@
 // The machine and its steps.
-ghost use Rattle.std.specs.Prelude.{◌≡◌, ◌+◌, ◌*◌, ◌/◌, ◌<◌, ◌≤◌, ◌^◌, ℕ, List, [], true, false, length, OnOk, OnErr, IfOk, IsErrOf, slice_index, slice_index_or};
+ghost use Rattle.std.specs.Prelude.{◌≡◌, ◌+◌, ◌*◌, ◌/◌, ◌<◌, ◌≤◌, ◌^◌, ℕ, List, [], Some, true, false, length, OnOk, OnErr, IfOk, IsErrOf, IsTrue, Bool, Option, slice_index, slice_index_or};
 ghost use Rattle.std.specs.Io.KnownBytes.{Appends};
 ghost use Rattle.cape_io.specs.Devices.{PutsFront, Rose};
 ghost use Rattle.bit_laws.specs.Numbers.{low};
-ghost use Rattle.cam_chain.specs.Slices.{blank};
+ghost use Rattle.bit_rows.specs.Slices.{blank};
 ghost use Rattle.cam_chain.specs.ChainValue.{slices_of, no_counts};
 ghost use Rattle.micro_ir.specs.Replay.{replay};
 ghost use Rattle.rv32_decode.specs.Spelling.{IsSpelled};
-ghost use Rattle.rvv_meaning.specs.declared.Meaning.TheVariants.{Scalar};
+ghost use Rattle.rvv_meaning.specs.declared.Meaning.TheVariants.{Scalar, Vector};
 ghost use Rattle.rvv_meaning.specs.declared.Next.TheVariants.{Perform};
-ghost use Rattle.rvv_meaning.specs.Words.{means_vector};
-ghost use Rattle.rvv_meaning.specs.States.{Core, next, next_for, next_vector, trap, retired_to, with_effect, effect_at, is_illegal, core_after, executed_scalar, configured, elementwise, called, asked, scalar_operand};
+ghost use Rattle.rvv_decode.specs.Ranges.{IsInRange};
+ghost use Rattle.rvv_decode.specs.Rows.{means as means_vector};
+ghost use Rattle.vtype_cfg.specs.Settings.{is_legal_vlen, is_valid};
+ghost use Rattle.rvv_meaning.specs.States.{Core, next, next_for, next_vector, trap, retired_to, with_effect, effect_at, cfg_at, core_after, executed_scalar, configured, elementwise, called, asked};
+ghost use Rattle.rvv_meaning.specs.Allowed.{Allowed};
+ghost use Rattle.rvv_meaning.specs.Vectors.{length_asked, length_of_register, setting_asked, scalar_operand, on_elements_is_built};
 ghost use Rattle.rvv_meaning.specs.Calls.{first, named_call, asked_by, put_by};
 ghost use Rattle.rvv_meaning.specs.Images.{start_core};
 ghost use Rattle.guest_env.specs.Inputs.{Takes};
 ghost use Rattle.guest_env.specs.Outputs.{bytes_out, bytes_err, IsFaultOf};
 ghost use Rattle.guest_env.specs.Answers.{FailsReading, FailsWriting, IsWriting};
-ghost use Rattle.vec_exec.specs.Programs.{NamesRegisters, prog, is_engine};
+ghost use Rattle.vec_exec.specs.Programs.{prog};
 ghost use Rattle.machine.specs.Answers.{answer_of, halt_of};
-ghost use Rattle.machine.specs.Fields.{NextFits};
-ghost use Rattle.machine.specs.Moments.{moment_after, moments};
+ghost use Rattle.machine.specs.Fields.{NextFits, VectorFits};
+ghost use Rattle.machine.specs.Moments.{control_by, moment_after, moments};
 ghost use Rattle.machine.specs.Opening.{memory_of};
 ghost use Rattle.machine.specs.Views.{CallsAt, GoesBy, FaultsIn, ReadsIn};
 ghost use Rattle.machine.specs.Carrying.{Carries, Fails};
 
 use crate::answers::{DeviceFault, Step};
-use crate::words::{decode_vector, is_vector_word};
+use crate::built::is_built;
 use cam_chain::{Chain, Counts};
 use cape_io::{Sink, Source};
 use elf_load::Loaded;
@@ -34,26 +38,32 @@ use guest_mem::{Mem, Trap};
 use micro_ir::{Control, MicroBuf, replay};
 use rv32_core::{Regs, exec};
 use rv32_decode::{Instr, decode};
-use rvv_meaning::{Csrs, Flow, Meaning, Mode, Next, Policy, VInstr, VOp};
+use rvv_decode::{ConfigOp, Form, VInstr, VOp, decode_v};
+use rvv_meaning::{Csrs, Flow, Meaning, Mode, Next, Policy};
 use std::alloc::{AllocError as NoMemory, Global};
 use std::marker::Model;
-use vec_exec::{engine, plan};
+use vec_exec::plan;
+use vtype_cfg::{Avl, Cfg, Vtype, legal, set_vl};
 
 // The stack pointer and its place at the start.
 const STACK_POINTER: u8 = 2;
 
 const STACK_TOP: u32 = 0x7fff_ffc0;
 
-// The bits of an element, of which each column of the slices holds one.
+// The bits of a register that each column of the slices holds.
 const COLUMN_BITS: u32 = 32;
 
 // The most micro-operations of one instruction.
 const PROGRAM_LIMIT: u32 = 262_144;
 
-// The bits of vtype where no setting is in force, and of the setting e32, m1, ta, ma.
-const VILL: u32 = 0x8000_0000;
+// The control numbers that a program starts from.
+const CLEARED: Control = Control {
+    num: 0,
+    clip: false,
+};
 
-const SETTING: u32 = 0xd0;
+// The bits of vtype where no setting is in force.
+const VILL: u32 = 0x8000_0000;
 
 // The bytes of a word.
 const WORD_BYTES: u32 = 4;
@@ -73,11 +83,13 @@ pub struct Machine {
     chain: Chain,
     buf: MicroBuf,
     mode: Mode,
+    policy: Policy,
+    control: Control,
     live: bool,
 }
 
 impl Model for Machine {
-    ghost use Rattle.std.specs.Prelude.{◌≡◌, ◌≤◌, ◌+◌, ◌*◌, ◌^◌, length};
+    ghost use Rattle.std.specs.Prelude.{◌≡◌, ◌≤◌, ◌<◌, ◌+◌, ◌*◌, ◌^◌, length};
     ghost use Rattle.cam_chain.specs.ChainValue.{slices_of};
     ghost use Rattle.cam_chain.specs.Views.{registers_of};
     ghost use Rattle.std.specs.Coded.{codes};
@@ -89,18 +101,21 @@ impl Model for Machine {
     ghost coded = { Prim.hlevel (codes, memory_code) };
 
     ghost view = { λ m. record {
-      core = record { regs = m.regs; pc = m.pc; csrs = m.csrs; mem = m.mem; vectors = registers_of (slices_of m.chain); mode = m.mode };
+      core = record { regs = m.regs; pc = m.pc; csrs = m.csrs; mem = m.mem; vectors = registers_of (slices_of m.chain); mode = m.mode; policy = m.policy };
       chain = m.chain;
       last = m.buf.ops;
+      control = m.control;
       live = m.live;
     } };
 
     ghost use Rattle.std.specs.Prelude.{IsTrue};
-    ghost use Rattle.rvv_meaning.specs.Scalar.ControlRegisters.{is_legal_vlen};
+    ghost use Rattle.vtype_cfg.specs.Settings.{is_legal_vlen, vtype_of, vlmax};
 
     ghost invariant = { λ m. record {
       legal : IsTrue (is_legal_vlen m.csrs.vlen);
       rounding : m.csrs.vxrm ≤ 3;
+      most : m.csrs.vl ≤ vlmax (vtype_of m.csrs.vtype) m.csrs.vlen;
+      starts : m.csrs.vstart < m.csrs.vlen;
       vlen : m.csrs.vlen ≡ 32 * m.chain.columns;
       room : length m.buf.ops + m.buf.spare ≡ 262144;
       retired : m.csrs.retired ≤ 2 ^ 63;
@@ -112,20 +127,20 @@ impl Model for Machine {
 
 impl Machine {
     /// A machine in the opening state of the image: its registers are zero but x2, no setting of the vector unit is in
-    /// force, and all slices, tags and counts are zero. Vector registers of 1,024 bits and the policy that keeps
-    /// agnostic elements are built.
+    /// force, and all slices, tags and counts are zero. A vector register has `vlen` bits, a power of two from 32 to
+    /// 65,536, and `policy` says what becomes of agnostic elements.
     pub fn new(
         alloc: Global,
         loaded: Loaded,
         vlen: u32,
         policy: Policy,
     ) -> Result<Machine, NoMemory>
-        requires vlen { vlen ≡ 1024 }
-        requires policy { policy ≡ Policy.Keep }
-        ensures core { IfOk result (λ machine. machine.core ≡ start_core vlen loaded.entry_pc (memory_of loaded.regions loaded.heap loaded.heap_end)) }
+        requires vlen { IsTrue (is_legal_vlen vlen) }
+        ensures core { IfOk result (λ machine. machine.core ≡ start_core vlen policy loaded.entry_pc (memory_of loaded.regions loaded.heap loaded.heap_end)) }
         ensures slices { IfOk result (λ machine. slices_of machine.chain ≡ blank (vlen / 32)) }
         ensures counts { IfOk result (λ machine. machine.chain.counts ≡ no_counts) }
         ensures last { IfOk result (λ machine. machine.last ≡ []) }
+        ensures control { IfOk result (λ machine. machine.control ≡ record { num = 0; clip = false }) }
         ensures live { IfOk result (λ machine. machine.live ≡ true) }
         ensures running { IfOk result (λ machine. machine.core.mode ≡ Mode.Running) }
         ensures fresh { IfOk result (λ machine. machine.core.csrs.retired ≡ 0) }
@@ -158,6 +173,8 @@ impl Machine {
             chain,
             buf,
             mode: Mode::Running,
+            policy,
+            control: CLEARED,
             live: true,
         })
     }
@@ -238,6 +255,13 @@ impl Machine {
         &self.buf
     }
 
+    /// The control numbers as the last program left them.
+    pub fn control(&self) -> Control
+        ensures { result ≡ self.now.control }
+    {
+        self.control
+    }
+
     /// Byte j of vector register r, with r below 32 and j below an eighth of the register's length in bits.
     pub fn vreg_byte(&self, r: u8, j: u32) -> u8
         requires register { r < 32 }
@@ -248,14 +272,18 @@ impl Machine {
         (word >> (8 * (j % 4)) & 0xff) as u8
     }
 
-    // Whether a vector instruction is illegal: one on elements, where no setting is in force.
-    fn is_illegal(&self, op: VOp) -> bool
-        ensures { result ≡ is_illegal op self.now.core }
+    // The configuration of the vector unit.
+    fn cfg(&self) -> Cfg
+        ensures is { result ≡ cfg_at self.now.core }
+        ensures valid { IsTrue (is_valid result) }
     {
-        match op {
-            VOp::Vsetivli => false,
-            VOp::VxorVv => self.csrs.vtype == VILL,
-            VOp::VmvVx => self.csrs.vtype == VILL,
+        Cfg {
+            vtype: Vtype::from_bits(self.csrs.vtype),
+            vl: self.csrs.vl,
+            vstart: self.csrs.vstart,
+            vxrm: self.csrs.vxrm,
+            vlen: self.csrs.vlen,
+            policy: self.policy,
         }
     }
 
@@ -273,16 +301,17 @@ impl Machine {
     // What comes of a word at pc that is no scalar instruction.
     fn next_vector(&self, word: u32) -> Next
         ensures is { result ≡ next_vector self.now.core word (means_vector word) }
-        ensures range { NextFits result }
+        ensures range { NextFits self.now.core result }
     {
-        let Some(i) = decode_vector(word) else {
-            if is_vector_word(word) {
-                return Next::Stop(Mode::Unbuilt);
-            }
+        let Some(i) = decode_v(word) else {
             return Next::Stop(self.trap(ILLEGAL_WORD, word));
         };
-        if self.is_illegal(i.op) {
+        let vtype = Vtype::from_bits(self.csrs.vtype);
+        if !legal(&i, &vtype, self.csrs.vstart, self.csrs.vlen) {
             return Next::Stop(self.trap(ILLEGAL_WORD, word));
+        }
+        if !is_built(i.op) {
+            return Next::Stop(Mode::Unbuilt);
         }
         Next::Perform(Meaning::Vector(i))
     }
@@ -290,7 +319,7 @@ impl Machine {
     // What comes of a word at pc.
     fn next_for(&self, word: u32) -> Next
         ensures is { result ≡ next_for self.now.core word }
-        ensures range { NextFits result }
+        ensures range { NextFits self.now.core result }
     {
         match decode(word) {
             Some(i) => Next::Perform(Meaning::Scalar(i)),
@@ -302,7 +331,7 @@ impl Machine {
     #[tactic(auto, unfolding(rvv_meaning::specs::States::next))]
     fn next(&self) -> Next
         ensures is { result ≡ next self.now.core }
-        ensures range { NextFits result }
+        ensures range { NextFits self.now.core result }
     {
         match self.mem.fetch(self.pc) {
             Err(_) => Next::Stop(self.trap(FETCH_FAULT, self.pc)),
@@ -352,51 +381,88 @@ impl Machine {
         self.pc.wrapping_add(WORD_BYTES)
     }
 
-    // The setting e32, m1, ta, ma with a new length.
-    fn configure(&mut self, i: &VInstr)
-        requires fields { NamesRegisters i.now }
-        requires count { self.old.core.csrs.retired < 2 ^ 63 }
-        ensures { self.new ≡ record self.old { core = configured i.now self.old.core } }
+    // How many elements a configuration asks for, where a register may say so.
+    fn length_of_register(&self, i: &VInstr) -> Avl
+        requires { i.now.vs1 < 32 }
+        ensures { result ≡ length_of_register i.now self.now.core.regs }
     {
-        let length = u32::from(i.vs1).min(self.csrs.vlen / COLUMN_BITS);
+        if i.vs1 != 0 {
+            Avl::Given(self.regs.get(i.vs1))
+        } else if i.vd != 0 {
+            Avl::Max
+        } else {
+            Avl::Keep
+        }
+    }
+
+    // How many elements a configuration asks for.
+    fn length_asked(&self, op: ConfigOp, i: &VInstr) -> Avl
+        requires { i.now.vs1 < 32 }
+        ensures { result ≡ length_asked op i.now self.now.core.regs }
+    {
+        match op {
+            ConfigOp::Vsetivli => Avl::Given(u32::from(i.vs1)),
+            ConfigOp::Vsetvli | ConfigOp::Vsetvl => self.length_of_register(i),
+        }
+    }
+
+    // The bits of the vector type that a configuration asks for.
+    fn setting_asked(&self, op: ConfigOp, i: &VInstr) -> u32
+        requires { i.now.vs2 < 32 }
+        ensures { result ≡ setting_asked op i.now self.now.core.regs }
+    {
+        match op {
+            ConfigOp::Vsetvli | ConfigOp::Vsetivli => u32::from(i.zimm),
+            ConfigOp::Vsetvl => self.regs.get(i.vs2),
+        }
+    }
+
+    // A configuration of the vector unit.
+    fn configure(&mut self, op: ConfigOp, i: &VInstr)
+        requires fields { IsInRange i.now }
+        requires count { self.old.core.csrs.retired < 2 ^ 63 }
+        ensures { self.new ≡ record self.old { core = configured op i.now self.old.core } }
+    {
+        let asked = self.length_asked(op, i);
+        let setting = self.setting_asked(op, i);
+        let old = Vtype::from_bits(self.csrs.vtype);
+        let (vtype, vl) = set_vl(&old, self.csrs.vl, asked, setting, self.csrs.vlen);
         self.csrs.vstart = 0;
-        self.csrs.vl = length;
-        self.csrs.vtype = SETTING;
-        self.regs.set(i.vd, length);
+        self.csrs.vl = vl;
+        self.csrs.vtype = vtype.bits();
+        self.regs.set(i.vd, vl);
         self.retire_to(self.behind());
     }
 
     // The scalar that an instruction takes.
     fn scalar_of(&self, i: &VInstr) -> u32
         requires { i.now.vs1 < 32 }
-        ensures { result ≡ scalar_operand i.now.op i.now self.now.core }
+        ensures { result ≡ scalar_operand i.now self.now.core.regs }
     {
-        match i.op {
-            VOp::Vsetivli => 0,
-            VOp::VxorVv => 0,
-            VOp::VmvVx => self.regs.get(i.vs1),
+        match i.form {
+            Form::X => self.regs.get(i.vs1),
+            Form::V | Form::I => 0,
         }
     }
 
-    // An instruction with a program, which is planned into the empty buffer and replayed on the slices.
+    // An instruction on elements, which is planned into the empty buffer and replayed on the slices.
     fn run_program(&mut self, i: &VInstr)
-        requires engine { is_engine i.now.op ≡ true }
-        requires fields { NamesRegisters i.now }
+        requires fits { VectorFits self.old.core i.now }
+        requires elements { on_elements_is_built i.now.op ≡ true }
         requires empty { self.old.last ≡ [] }
         requires count { self.old.core.csrs.retired < 2 ^ 63 }
         ensures core { self.new.core ≡ elementwise i.now self.old.core }
-        ensures slices { slices_of self.new.chain ≡ replay (prog i.now self.old.core.csrs (scalar_operand i.now.op i.now self.old.core)) (record (slices_of self.old.chain) { num = 0 }) }
-        ensures last { self.new.last ≡ prog i.now self.old.core.csrs (scalar_operand i.now.op i.now self.old.core) }
+        ensures slices { slices_of self.new.chain ≡ replay (prog i.now (cfg_at self.old.core) (scalar_operand i.now self.old.core.regs)) (record (slices_of self.old.chain) { num = 0 }) }
+        ensures last { self.new.last ≡ prog i.now (cfg_at self.old.core) (scalar_operand i.now self.old.core.regs) }
+        ensures control { self.new.control ≡ control_by (Some (prog i.now (cfg_at self.old.core) (scalar_operand i.now self.old.core.regs))) (slices_of self.old.chain) self.old.control }
         ensures live { self.new.live ≡ self.old.live }
     {
         let scalar = self.scalar_of(i);
-        plan(i, &self.csrs, scalar, &mut self.buf);
+        let cfg = self.cfg();
+        plan(i, &cfg, scalar, &mut self.buf);
         let first = self.buf.ops().len() as u32;
-        let mut control = Control {
-            num: 0,
-            clip: false,
-        };
-        replay(&mut self.chain, &mut control, &self.buf, first);
+        self.control = CLEARED;
+        replay(&mut self.chain, &mut self.control, &self.buf, first);
         self.csrs.vstart = 0;
         self.pc = self.pc.wrapping_add(WORD_BYTES);
         self.csrs.retired += 1;
@@ -494,6 +560,22 @@ impl Machine {
         }
     }
 
+    // Carries out the vector instruction at pc.
+    fn perform_vector(&mut self, i: &VInstr)
+        requires fits { VectorFits self.old.core i.now }
+        requires there { next self.old.core ≡ Perform (Vector i.now) }
+        requires empty { self.old.last ≡ [] }
+        requires count { self.old.core.csrs.retired < 2 ^ 63 }
+        ensures carries { (merged : Bool) (left out err : Option (List ℕ)) → Carries merged self.old self.new [] left left out out err err }
+        ensures count { self.new.core.csrs.retired ≤ self.old.core.csrs.retired + 1 }
+        ensures length { self.new.core.csrs.vlen ≡ self.old.core.csrs.vlen }
+    {
+        match i.op {
+            VOp::Config(op) => self.configure(op, i),
+            VOp::Opi(_) | VOp::Opm(_) | VOp::Memory(_) => self.run_program(i),
+        }
+    }
+
     // Carries out the instruction at pc.
     fn carry_out<S: Source, O: Sink, E: Sink>(
         &mut self,
@@ -522,11 +604,7 @@ impl Machine {
             }
             Next::Perform(Meaning::Scalar(i)) => self.perform(&i, input, out, err, merged),
             Next::Perform(Meaning::Vector(i)) => {
-                if engine(&i) {
-                    self.run_program(&i);
-                } else {
-                    self.configure(&i);
-                }
+                self.perform_vector(&i);
                 Ok(())
             }
         }
@@ -553,6 +631,9 @@ impl Machine {
         ensures count { OnOk result (self.new.core.csrs.retired ≤ self.old.core.csrs.retired + 1) }
         ensures length { self.new.core.csrs.vlen ≡ self.old.core.csrs.vlen }
         ensures answer { IfOk result (λ answer. answer ≡ answer_of self.new.core.mode) }
+
+        // Agnostic elements are as the standard permits, whatever the policy is.
+        ensures allowed { OnOk result ((taken : List ℕ) × Allowed self.old.core taken self.new.core) }
 
         // The moment after is that of one step from the moment before.
         ensures goes { OnOk result (GoesBy moment_after merged self.old self.new (S.left input.old) (S.left input.new) (O.held out.old) (O.held out.new) (E.held err.old) (E.held err.new)) }

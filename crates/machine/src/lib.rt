@@ -3,10 +3,10 @@
 #![tactic(auto)]
 
 mod answers;
+mod built;
 mod core_state;
 #[cfg(test)]
 mod tests;
-mod words;
 
 pub use answers::{DeviceFault, Step};
 pub use core_state::Machine;

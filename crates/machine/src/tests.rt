@@ -5,7 +5,7 @@ use crate::{Machine, Step};
 use cape_io::{MemSink, MemSource};
 use elf_load::load;
 use guest_mem::Trap;
-use micro_ir::MicroOp;
+use micro_ir::{LineBuf, listing};
 use rvv_meaning::Policy;
 use std::alloc::Global;
 use std::test::Fail;
@@ -82,65 +82,28 @@ fn run_of(
     })
 }
 
-// A search or an update, as its fields stand in the operation.
-#[derive(Drop)]
-enum Wanted {
-    Search(u32, &'static [(u8, bool)], bool),
-    Update(u32, u8, bool),
-    Window(u8, u32, u32),
-}
-
-// Whether the operation is the one that is wanted.
-fn is_wanted(op: &MicroOp, wanted: &Wanted) -> bool {
-    match (op, wanted) {
-        (MicroOp::Search { subs, keys, join }, Wanted::Search(set, pairs, joins)) => {
-            *subs == *set && keys.as_slice() == *pairs && *join == *joins
-        }
-        (MicroOp::Update { subs, row, bit }, Wanted::Update(set, place, value)) => {
-            *subs == *set && *row == *place && *bit == *value
-        }
-        (
-            MicroOp::Window {
-                row,
-                width,
-                first,
-                from,
-                to,
-                masked,
-            },
-            Wanted::Window(place, start, end),
-        ) => {
-            *row == *place
-                && *width == 32
-                && *first == 0
-                && *from == *start
-                && *to == *end
-                && !*masked
-        }
-        _ => false,
-    }
-}
-
 #[test]
 fn an_exclusive_or_of_one_register_makes_ten_operations(rt: HostRuntime) -> Result<(), Fail> {
     let ran = run_of(rt.alloc(), &SPLAT, 4, false, &[])?;
     assert_eq!(rt; ran.answer, Some(Step::Ran));
     let wanted = [
-        Wanted::Window(32, 0, 4),
-        Wanted::Search(u32::MAX, &[], false),
-        Wanted::Update(u32::MAX, 36, false),
-        Wanted::Search(u32::MAX, &[(36, true)], false),
-        Wanted::Search(u32::MAX, &[(36, true)], true),
-        Wanted::Update(u32::MAX, 36, true),
-        Wanted::Search(u32::MAX, &[(32, true), (36, true)], false),
-        Wanted::Update(u32::MAX, 2, true),
-        Wanted::Search(u32::MAX, &[(32, true), (36, false)], false),
-        Wanted::Update(u32::MAX, 2, false),
+        "window 32 32 0 0 4 0",
+        "search ffffffff 0",
+        "update ffffffff 36 0",
+        "search ffffffff 36=1 0",
+        "search ffffffff 36=1 1",
+        "update ffffffff 36 1",
+        "search ffffffff 32=1 36=1 0",
+        "update ffffffff 2 1",
+        "search ffffffff 32=1 36=0 0",
+        "update ffffffff 2 0",
     ];
     let ops = ran.machine.last().ops();
     assert_eq!(rt; ops.len(), 10);
+    let mut line = LineBuf::new();
     for (op, wanted) in ops.iter().zip(wanted.iter()) {
-        assert!(rt; is_wanted(op, wanted));
+        listing(op, &mut line);
+        assert_eq!(rt; line.as_str(), *wanted);
     }
     Ok(())
 }

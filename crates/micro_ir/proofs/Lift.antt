@@ -4,10 +4,12 @@ use Rattle.std.proofs.lemmas.Bool.{cases_lt, cases_Bool, lt-ltb, le-ltb, leb-tru
 use Rattle.micro_ir.proofs.Lists.{replay-append}
 use Rattle.micro_ir.proofs.Subs.{selected-of}
 use Rattle.cam_chain.specs.KeyPairs.{keys_of}
-use Rattle.cam_chain.specs.Slices.{Slices, placed, selected, matches, searched, updated, passed}
+use Rattle.bit_rows.specs.Slices.{Slices, placed}
+use Rattle.cam_chain.specs.Slices.{selected, matches, searched, updated, passed}
 use Rattle.micro_ir.specs.declared.op.MicroOp.{MicroOp}
-use Rattle.micro_ir.specs.declared.op.MicroOp.TheVariants.{Search, Update, Pass, Window}
-use Rattle.micro_ir.specs.Replay.{effect, replay, windowed}
+use Rattle.micro_ir.specs.declared.op.MicroOp.TheVariants.{Search, Update, Pass, Window, Free}
+use Rattle.micro_ir.specs.Replay.{effect, replay}
+use Rattle.steer_net.specs.Network.{windowed, freed}
 use Rattle.micro_ir.specs.Subs.{subs_of}
 use Rattle.micro_ir.specs.Steps.{Step, searches, fires, moved, source, pass_of, micro_from, micro, micros, Fits, AllFit, element, step_on, steps_on}
 
@@ -206,6 +208,7 @@ replay-columns (Search subs keys join ∷ ops) s = replay-columns ops (searched 
 replay-columns (Update subs row bit ∷ ops) s = replay-columns ops (updated subs row bit s)
 replay-columns (Pass up times ∷ ops) s = replay-columns ops (passed up times s)
 replay-columns (Window row width first from to masked ∷ ops) s = replay-columns ops (windowed row width first from to masked s)
+replay-columns (Free row width first from to masked tail off ∷ ops) s = replay-columns ops (freed row width first from to masked tail off s)
 
 -- a list of steps acts on each element by itself
 pub micros-element : (w k col : ℕ) (steps : List Step) (s : Slices) → AllFit w steps → k * w + w ≤ 32 → col < s.columns

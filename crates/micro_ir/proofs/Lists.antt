@@ -1,11 +1,11 @@
 -- Lists of operations, joined or one operation longer.
 use Rattle.std.proofs.Common.{◌≡◌, ℕ, ◌+◌, ◌<◌, ◌≤◌, List, [], ◌∷◌, ◌++◌, zero, suc, length, get_or, take, refl, sym, ◌∙◌, ap, arith, add_assoc, zero-add, add-zero}
 use Rattle.std.proofs.lemmas.List.{take_more}
-use Rattle.cam_chain.specs.Slices.{Slices}
+use Rattle.bit_rows.specs.Slices.{Slices}
 use Rattle.cam_chain.specs.ChainValue.{no_counts}
 use Rattle.cam_chain.specs.declared.counts.Counts.{Counts}
 use Rattle.micro_ir.specs.declared.op.MicroOp.{MicroOp}
-use Rattle.micro_ir.specs.declared.op.MicroOp.TheVariants.{Search, Update, Pass, Window}
+use Rattle.micro_ir.specs.declared.op.MicroOp.TheVariants.{Search, Update, Pass, Window, Free}
 use Rattle.micro_ir.specs.Replay.{effect, replay, IsInRange, AllInRange, counts_in, counts_and, tally}
 
 -- the replay of two lists, one after the other
@@ -54,31 +54,32 @@ tally-append (x ∷ xs) ys = ap (counts_and (counts_in x)) (tally-append xs ys) 
 pub tally_more : (ops : List MicroOp) (i : ℕ) (op : MicroOp) → i < length ops → op ≡ get_or ops i op → tally (take (i + 1) ops) ≡ counts_and (tally (take i ops)) (counts_in op)
 tally_more ops i op h e = rw (take_more ops i op h, ← e) (tally-append (take i ops) (op ∷ []) ∙ rw (tally-one op) refl)
 
-pub AllInRange-none : AllInRange []
+pub AllInRange-none : (columns : ℕ) → AllInRange columns []
 unfolding AllInRange
-AllInRange-none = tt
+AllInRange-none columns = tt
 
-pub AllInRange-one : (op : MicroOp) → IsInRange op → AllInRange (op ∷ [])
+pub AllInRange-one : (columns : ℕ) (op : MicroOp) → IsInRange columns op → AllInRange columns (op ∷ [])
 unfolding AllInRange
-AllInRange-one op h = (h, tt)
+AllInRange-one columns op h = (h, tt)
 
 -- a chain can run two lists, one after the other
-pub AllInRange-append : (xs ys : List MicroOp) → AllInRange xs → AllInRange ys → AllInRange (xs ++ ys)
+pub AllInRange-append : (columns : ℕ) (xs ys : List MicroOp) → AllInRange columns xs → AllInRange columns ys → AllInRange columns (xs ++ ys)
 unfolding AllInRange
-AllInRange-append [] ys p q = q
-AllInRange-append (x ∷ xs) ys p q = (p.0, AllInRange-append xs ys p.1 q)
+AllInRange-append columns [] ys p q = q
+AllInRange-append columns (x ∷ xs) ys p q = (p.0, AllInRange-append columns xs ys p.1 q)
 
 -- an operation of a front that a chain can run
-pub IsInRange-at : (n : ℕ) (ops : List MicroOp) (i : ℕ) (op : MicroOp) → AllInRange (take n ops) → i < n → i < length ops → op ≡ get_or ops i op → IsInRange op
+pub IsInRange-at : (columns n : ℕ) (ops : List MicroOp) (i : ℕ) (op : MicroOp) → AllInRange columns (take n ops) → i < n → i < length ops → op ≡ get_or ops i op → IsInRange columns op
 unfolding AllInRange
-IsInRange-at zero ops i op p h l e = absurd (omega arith)
-IsInRange-at (suc n) [] i op p h l e = absurd (omega arith)
-IsInRange-at (suc n) (x ∷ xs) zero op p h l e = rw e p.0
-IsInRange-at (suc n) (x ∷ xs) (suc i) op p h l e = IsInRange-at n xs i op p.1 (omega arith) (omega arith) e
+IsInRange-at columns zero ops i op p h l e = absurd (omega arith)
+IsInRange-at columns (suc n) [] i op p h l e = absurd (omega arith)
+IsInRange-at columns (suc n) (x ∷ xs) zero op p h l e = rw e p.0
+IsInRange-at columns (suc n) (x ∷ xs) (suc i) op p h l e = IsInRange-at columns n xs i op p.1 (omega arith) (omega arith) e
 
 -- an operation that a chain can run counts little
-pub counts_in-few : (op : MicroOp) → IsInRange op → ((counts_in op).searches ≤ 31) × ((counts_in op).updates ≤ 31) × ((counts_in op).passes ≤ 31)
-counts_in-few (Search subs keys join) h = (omega arith, omega arith, omega arith)
-counts_in-few (Update subs row bit) h = (omega arith, omega arith, omega arith)
-counts_in-few (Pass up times) h = (omega arith, omega arith, h.1)
-counts_in-few (Window row width first from to masked) h = (omega arith, omega arith, omega arith)
+pub counts_in-few : (columns : ℕ) (op : MicroOp) → IsInRange columns op → ((counts_in op).searches ≤ 31) × ((counts_in op).updates ≤ 31) × ((counts_in op).passes ≤ 31)
+counts_in-few columns (Search subs keys join) h = (omega arith, omega arith, omega arith)
+counts_in-few columns (Update subs row bit) h = (omega arith, omega arith, omega arith)
+counts_in-few columns (Pass up times) h = (omega arith, omega arith, h.1)
+counts_in-few columns (Window row width first from to masked) h = (omega arith, omega arith, omega arith)
+counts_in-few columns (Free row width first from to masked tail off) h = (omega arith, omega arith, omega arith)

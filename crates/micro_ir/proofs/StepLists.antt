@@ -1,7 +1,8 @@
 -- Lists of steps: joined, in a chain's range, counted and measured.
 use Rattle.std.proofs.Common.{◌≡◌, ℕ, ◌+◌, ◌*◌, ◌<◌, ◌≤◌, Bool, false, true, List, [], ◌∷◌, ◌++◌, zero, suc, length, refl, sym, ◌∙◌, ap, arith, append_assoc, length-append}
 use Rattle.cam_chain.specs.KeyPairs.{keys_of}
-use Rattle.cam_chain.specs.Slices.{Slices, searched}
+use Rattle.bit_rows.specs.Slices.{Slices}
+use Rattle.cam_chain.specs.Slices.{searched}
 use Rattle.cam_chain.specs.ChainValue.{no_counts}
 use Rattle.cam_chain.specs.declared.counts.Counts.{Counts}
 use Rattle.micro_ir.specs.declared.op.MicroOp.{MicroOp}
@@ -50,33 +51,33 @@ pub RowsFit-append : (xs ys : List Step) → RowsFit xs → RowsFit ys → RowsF
 RowsFit-append [] ys p q = q
 RowsFit-append (x ∷ xs) ys p q = (p.0, p.1, RowsFit-append xs ys p.2 q)
 
-AllInRange-searches : (subs : ℕ) (inputs : List ℕ) (join : Bool) (ts : List ℕ) → AllInRange (searches subs inputs join ts)
+AllInRange-searches : (columns subs : ℕ) (inputs : List ℕ) (join : Bool) (ts : List ℕ) → AllInRange columns (searches subs inputs join ts)
 unfolding AllInRange
-AllInRange-searches subs inputs join [] = tt
-AllInRange-searches subs inputs join (t ∷ ts) = (tt, AllInRange-searches subs inputs true ts)
+AllInRange-searches columns subs inputs join [] = tt
+AllInRange-searches columns subs inputs join (t ∷ ts) = (tt, AllInRange-searches columns subs inputs true ts)
 
-AllInRange-pass_of : (up : Bool) (times : ℕ) → times ≤ 31 → AllInRange (pass_of up times)
-AllInRange-pass_of up zero h = AllInRange-none
-AllInRange-pass_of up (suc n) h = AllInRange-one (Pass up (suc n)) (omega arith, h)
+AllInRange-pass_of : (columns : ℕ) (up : Bool) (times : ℕ) → times ≤ 31 → AllInRange columns (pass_of up times)
+AllInRange-pass_of columns up zero h = AllInRange-none columns
+AllInRange-pass_of columns up (suc n) h = AllInRange-one columns (Pass up (suc n)) (omega arith, h)
 
-AllInRange-from : (w : ℕ) (step : Step) (on : List ℕ) → step.out < 64 → step.times ≤ 31 → AllInRange (micro_from w step on)
-AllInRange-from w step [] h k = AllInRange-none
-AllInRange-from w step (t ∷ ts) h k =
-    AllInRange-append (searches (subs_of w step.at) step.inputs false (t ∷ ts)) (pass_of step.up step.times ++ Update (subs_of w (moved step)) step.out step.bit ∷ [])
-    (AllInRange-searches (subs_of w step.at) step.inputs false (t ∷ ts))
-    (AllInRange-append (pass_of step.up step.times) (Update (subs_of w (moved step)) step.out step.bit ∷ [])
-    (AllInRange-pass_of step.up step.times k) (AllInRange-one (Update (subs_of w (moved step)) step.out step.bit) h))
+AllInRange-from : (columns w : ℕ) (step : Step) (on : List ℕ) → step.out < 64 → step.times ≤ 31 → AllInRange columns (micro_from w step on)
+AllInRange-from columns w step [] h k = AllInRange-none columns
+AllInRange-from columns w step (t ∷ ts) h k =
+    AllInRange-append columns (searches (subs_of w step.at) step.inputs false (t ∷ ts)) (pass_of step.up step.times ++ Update (subs_of w (moved step)) step.out step.bit ∷ [])
+    (AllInRange-searches columns (subs_of w step.at) step.inputs false (t ∷ ts))
+    (AllInRange-append columns (pass_of step.up step.times) (Update (subs_of w (moved step)) step.out step.bit ∷ [])
+    (AllInRange-pass_of columns step.up step.times k) (AllInRange-one columns (Update (subs_of w (moved step)) step.out step.bit) h))
 
 -- a chain can run a step
-pub AllInRange-micro : (w : ℕ) (step : Step) → step.out < 64 → step.times ≤ 31 → AllInRange (micro w step)
+pub AllInRange-micro : (columns w : ℕ) (step : Step) → step.out < 64 → step.times ≤ 31 → AllInRange columns (micro w step)
 unfolding micro
-AllInRange-micro w step h k = AllInRange-from w step step.on h k
+AllInRange-micro columns w step h k = AllInRange-from columns w step step.on h k
 
 -- a chain can run a list of steps
-pub AllInRange-micros : (w : ℕ) (steps : List Step) → RowsFit steps → AllInRange (micros w steps)
+pub AllInRange-micros : (columns w : ℕ) (steps : List Step) → RowsFit steps → AllInRange columns (micros w steps)
 unfolding micros
-AllInRange-micros w [] h = AllInRange-none
-AllInRange-micros w (step ∷ steps) h = AllInRange-append (micro w step) (micros w steps) (AllInRange-micro w step h.0 h.1) (AllInRange-micros w steps h.2)
+AllInRange-micros columns w [] h = AllInRange-none columns
+AllInRange-micros columns w (step ∷ steps) h = AllInRange-append columns (micro w step) (micros w steps) (AllInRange-micro columns w step h.0 h.1) (AllInRange-micros columns w steps h.2)
 
 -- ---- counted
 

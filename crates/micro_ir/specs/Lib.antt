@@ -1,5 +1,6 @@
 -- Micro-operations, their replay, and table steps.
 pub mod BufValue
+pub mod Listing
 pub mod Replay
 pub mod Steps
 pub mod Subs

@@ -1,31 +1,12 @@
 -- The effect of a list of micro-operations, and how many searches, updates and passes it makes.
-use Rattle.std.specs.Prelude.{◌≡◌, ℕ, ◌+◌, ◌*◌, ◌/◌, ◌%◌, ◌<◌, ◌≤◌, Bool, false, cond, ◌&&◌, ◌||◌, not, eqb, List, [], ◌∷◌}
-use lib.Dec.{ltb, leb}
-use Rattle.cam_chain.specs.Slices.{Slices, searched, updated, passed, placed}
+use Rattle.std.specs.Prelude.{◌≡◌, ℕ, ◌+◌, ◌<◌, ◌≤◌, true, List, [], ◌∷◌}
+use Rattle.bit_rows.specs.Slices.{Slices}
+use Rattle.cam_chain.specs.Slices.{searched, updated, passed}
 use Rattle.cam_chain.specs.ChainValue.{ChainValue, slices_of, no_counts}
 use Rattle.cam_chain.specs.declared.counts.Counts.{Counts}
+use Rattle.steer_net.specs.Network.{windowed, freed, is_width, MaskReaches}
 use Rattle.micro_ir.specs.declared.op.MicroOp.{MicroOp}
-use Rattle.micro_ir.specs.declared.op.MicroOp.TheVariants.{Search, Update, Pass, Window}
-
--- the number of the element, of `width` bits, that holds this bit of a register whose first element has number `first`
-abbrev pub element_number : ℕ → ℕ → ℕ → ℕ → ℕ
-element_number width first sub col = first + (32 * col + sub) / width
-
--- bit e of register 0
-abbrev pub mask_of : Slices → ℕ → Bool
-mask_of s e = s.bit (e % 32) 0 (e / 32)
-
--- each bit of an element of the row is 1 where the element's number is from `from` on and below `to` and, where
--- masked, its bit of register 0 is 1
-abbrev pub windowed : ℕ → ℕ → ℕ → ℕ → ℕ → Bool → Slices → Slices
-windowed row width first from to masked s = record {
-  columns = s.columns;
-  bit = λ sub r col. cond (placed s.columns sub col && eqb r row)
-      (let e = element_number width first sub col in leb from e && ltb e to && (not masked || mask_of s e))
-      (s.bit sub r col);
-  tag = s.tag;
-  num = s.num;
-}
+use Rattle.micro_ir.specs.declared.op.MicroOp.TheVariants.{Search, Update, Pass, Window, Free}
 
 -- what one operation does
 abbrev pub effect : MicroOp → Slices → Slices
@@ -33,6 +14,7 @@ effect (Search subs keys join) s = searched subs keys join s
 effect (Update subs row bit) s = updated subs row bit s
 effect (Pass up times) s = passed up times s
 effect (Window row width first from to masked) s = windowed row width first from to masked s
+effect (Free row width first from to masked tail off) s = freed row width first from to masked tail off s
 
 -- what a list of operations does, in its order
 unfoldable pub replay : List MicroOp → Slices → Slices
@@ -43,17 +25,21 @@ replay (op ∷ ops) s = replay ops (effect op s)
 abbrev pub state_of : ChainValue → ℕ → Slices
 state_of chain num = record (slices_of chain) { num = num }
 
--- A chain can run the operation. Of the windows those of elements of 32 bits that are not masked are built.
-abbrev pub IsInRange : MicroOp → Type 0
-IsInRange (Search subs keys join) = Unit {0}
-IsInRange (Update subs row bit) = row < 64
-IsInRange (Pass up times) = (1 ≤ times) × (times ≤ 31)
-IsInRange (Window row width first from to masked) = (row < 64) × (width ≡ 32) × (masked ≡ false)
+-- A chain of so many columns can run the operation: rows are below 64, widths are built, a pass moves tags by 1 to 31
+-- subarrays, and the bits of the mask that an operation names lie in the register.
+abbrev pub IsInRange : ℕ → MicroOp → Type 0
+IsInRange columns (Search subs keys join) = Unit {0}
+IsInRange columns (Update subs row bit) = row < 64
+IsInRange columns (Pass up times) = (1 ≤ times) × (times ≤ 31)
+IsInRange columns (Window row width first from to masked) =
+    (row < 64) × (is_width width ≡ true) × (masked ≡ true → MaskReaches columns width first from to)
+IsInRange columns (Free row width first from to masked tail off) =
+    (row < 64) × (is_width width ≡ true) × (masked ≡ true → off ≡ true → MaskReaches columns width first from to)
 
--- a chain can run each operation of the list
-unfoldable pub AllInRange : List MicroOp → Type 0
-AllInRange [] = Unit {0}
-AllInRange (op ∷ ops) = IsInRange op × AllInRange ops
+-- a chain of so many columns can run each operation of the list
+unfoldable pub AllInRange : ℕ → List MicroOp → Type 0
+AllInRange columns [] = Unit {0}
+AllInRange columns (op ∷ ops) = IsInRange columns op × AllInRange columns ops
 
 -- the searches, updates and passes of one operation
 abbrev pub counts_in : MicroOp → Counts
@@ -61,6 +47,7 @@ counts_in (Search subs keys join) = record { searches = 1; updates = 0; passes =
 counts_in (Update subs row bit) = record { searches = 0; updates = 1; passes = 0 }
 counts_in (Pass up times) = record { searches = 0; updates = 0; passes = times }
 counts_in (Window row width first from to masked) = no_counts
+counts_in (Free row width first from to masked tail off) = no_counts
 
 -- two counts together
 abbrev pub counts_and : Counts → Counts → Counts

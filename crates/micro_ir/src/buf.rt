@@ -1,6 +1,8 @@
-ghost use Rattle.std.specs.Prelude.{◌≡◌, ◌+◌, ◌<◌, ◌≤◌, [], ◌∷◌, ◌++◌, length, IfOk};
+ghost use Rattle.std.specs.Prelude.{◌≡◌, ◌+◌, ◌^◌, ◌<◌, ◌≤◌, [], ◌∷◌, ◌++◌, length, IfOk};
+ghost use Rattle.micro_ir.specs.Replay.{counts_in, counts_and, tally};
 
 use crate::op::MicroOp;
+use cam_chain::Counts;
 use std::alloc::{AllocError as NoMemory, Global};
 use std::marker::Model;
 
@@ -58,6 +60,21 @@ impl MicroBuf {
         self.ops.as_slice()
     }
 
+    /// The searches, updates and passes of the operations.
+    pub fn tally(&self) -> Counts
+        ensures { result ≡ tally self.now.ops }
+    {
+        let mut counts = Counts {
+            searches: 0,
+            updates: 0,
+            passes: 0,
+        };
+        for op in self.ops() {
+            add(&mut counts, op);
+        }
+        counts
+    }
+
     /// How many more operations there is room for.
     pub fn spare(&self) -> u32
         ensures { result ≡ self.now.spare }
@@ -73,6 +90,24 @@ impl MicroBuf {
     {
         self.spare += self.ops.len() as u32;
         self.ops.clear();
+    }
+}
+
+/// Counts one operation more.
+fn add(counts: &mut Counts, op: &MicroOp)
+    requires searches { counts.old.searches < 2 ^ 100 }
+    requires updates { counts.old.updates < 2 ^ 100 }
+    requires passes { counts.old.passes < 2 ^ 100 }
+    ensures value { counts.new ≡ counts_and counts.old (counts_in op.now) }
+    ensures searches { counts.new.searches ≤ counts.old.searches + 255 }
+    ensures updates { counts.new.updates ≤ counts.old.updates + 255 }
+    ensures passes { counts.new.passes ≤ counts.old.passes + 255 }
+{
+    match op {
+        MicroOp::Search { .. } => counts.searches += 1,
+        MicroOp::Update { .. } => counts.updates += 1,
+        MicroOp::Pass { times, .. } => counts.passes += u128::from(*times),
+        MicroOp::Window { .. } | MicroOp::Free { .. } => {}
     }
 }
 
@@ -97,6 +132,12 @@ mod tests {
             };
             assert_eq!(rt; *times, want);
         }
+        let made = Counts {
+            searches: 0,
+            updates: 0,
+            passes: 7,
+        };
+        assert_eq!(rt; buf.tally(), made);
         buf.clear();
         assert_eq!(rt; (buf.ops().len(), buf.spare()), (0, 2));
         Ok(())

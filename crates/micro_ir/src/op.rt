@@ -31,4 +31,18 @@ pub enum MicroOp {
         to: u32,
         masked: bool,
     },
+    /// Each bit of an element of `width` bits of the row becomes 1 where the element is free, and
+    /// else 0: it is of the tail, whose numbers are from `to` on, and `tail`; or it lies from `from`
+    /// on and below `to`, `masked` and `off`, and its bit of row 0 is 0. The first element of the row
+    /// has the number `first`.
+    Free {
+        row: u8,
+        width: u8,
+        first: u32,
+        from: u32,
+        to: u32,
+        masked: bool,
+        tail: bool,
+        off: bool,
+    },
 }

@@ -1,18 +1,17 @@
-ghost use Rattle.std.specs.Prelude.{◌≡◌, ℕ, ◌^◌, ◌<◌, ◌≤◌, ◌&&◌, false, eqb, nat_le, nat_lt, take, length};
-ghost use Rattle.std.specs.Int.{bit_at};
-ghost use Rattle.cam_chain.specs.ChainValue.{slices_of};
-ghost use Rattle.micro_ir.specs.Replay.{effect, replay, state_of, windowed, IsInRange, AllInRange, counts_in, counts_and, tally};
+ghost use Rattle.std.specs.Prelude.{◌≡◌, ℕ, ◌^◌, ◌<◌, ◌≤◌, take, length};
+ghost use Rattle.micro_ir.specs.Replay.{effect, replay, state_of, IsInRange, AllInRange, counts_in, counts_and, tally};
 
 use crate::buf::MicroBuf;
 use crate::control::Control;
 use crate::op::MicroOp;
 use cam_chain::Chain;
+use steer_net::{free, window};
 
 /// Carries out the first `first` operations in their order. The chain counts their searches,
 /// updates and passes. No operation that is built changes a control number.
 pub fn replay(chain: &mut Chain, ctl: &mut Control, buf: &MicroBuf, first: u32)
     requires within { first ≤ length buf.now.ops }
-    requires in_range { AllInRange (take first buf.now.ops) }
+    requires in_range { AllInRange chain.old.columns (take first buf.now.ops) }
     requires searches { chain.old.counts.searches ≤ 2 ^ 99 }
     requires updates { chain.old.counts.updates ≤ 2 ^ 99 }
     requires passes { chain.old.counts.passes ≤ 2 ^ 99 }
@@ -31,7 +30,7 @@ pub fn replay(chain: &mut Chain, ctl: &mut Control, buf: &MicroBuf, first: u32)
 
 /// Carries out one operation.
 fn apply(chain: &mut Chain, op: &MicroOp)
-    requires in_range { IsInRange op.now }
+    requires in_range { IsInRange chain.old.columns op.now }
     requires searches { chain.old.counts.searches < 2 ^ 100 }
     requires updates { chain.old.counts.updates < 2 ^ 100 }
     requires passes { chain.old.counts.passes < 2 ^ 100 }
@@ -45,39 +44,24 @@ fn apply(chain: &mut Chain, op: &MicroOp)
         MicroOp::Pass { up, times } => chain.pass(*up, *times),
         MicroOp::Window {
             row,
-            width: _,
+            width,
             first,
             from,
             to,
-            masked: _,
-        } => write_window(chain, *row, *first, *from, *to),
-    }
-}
-
-/// Carries out a Window of elements of 32 bits, of which each column holds one, that is not masked.
-fn write_window(chain: &mut Chain, row: u8, first: u32, from: u32, to: u32)
-    requires { row < 64 }
-    ensures slices { slices_of chain.new
-        ≡ windowed row 32 first from to false (slices_of chain.old) }
-    ensures counted { chain.new.counts ≡ chain.old.counts }
-    ensures columns { chain.new.columns ≡ chain.old.columns }
-{
-    for col in 0..chain.columns() {
-        // The sum of two u32 may not fit one.
-        let word = window_word(first as u64 + col as u64, from, to);
-        chain.write_word(row, col, word);
-    }
-}
-
-/// All ones where the number is from `from` on and below `to`, and else zero.
-fn window_word(number: u64, from: u32, to: u32) -> u32
-    ensures { (s : ℕ) → s < 32
-        → eqb (bit_at result s) 1 ≡ (nat_le from number && nat_lt number to) }
-{
-    if from as u64 <= number && number < to as u64 {
-        u32::MAX
-    } else {
-        0
+            masked,
+        } => window(chain, *row, *width, *first, *from, *to, *masked),
+        MicroOp::Free {
+            row,
+            width,
+            first,
+            from,
+            to,
+            masked,
+            tail,
+            off,
+        } => free(
+            chain, *row, *width, *first, *from, *to, *masked, *tail, *off,
+        ),
     }
 }
 

@@ -1,6 +1,7 @@
 -- What each instruction keeps of the control registers.
-use Rattle.std.proofs.Common.{◌≡◌, ℕ, ◌≤◌, ◌==◌, Bool, true, false, cond, List, [], ◌∷◌, Option, Some, None, refl, arith}
+use Rattle.std.proofs.Common.{ℕ, ◌≤◌, ◌==◌, Bool, true, false, cond, List, [], ◌∷◌, Option, Some, None, refl, arith}
 use Rattle.std.specs.Prelude.{find, IfSome}
+use Rattle.std.proofs.Math.Nat.{mod-lt}
 use Rattle.std.specs.Option.{option_map}
 use Rattle.guest_mem.specs.Pages.{Memory}
 use Rattle.rv32_decode.specs.declared.instruction.Instr.{Instr}
@@ -11,12 +12,7 @@ use Rattle.rvv_meaning.specs.declared.Flow.{Flow}
 use Rattle.rvv_meaning.specs.Scalar.{Effect, effect, value_effect, target_effect, jump_effect, branch_effect, load_unless, load_effect, store_unless, store_effect, exchange_effect, csrs_after, change_effect, csr_effect, effect_of, executed}
 use Rattle.rvv_meaning.specs.Scalar.Transfers.{is_aligned}
 use Rattle.rvv_meaning.specs.Scalar.ControlRegisters.{entry_at, write, writable}
-
--- the length of a vector register and the retired count stay as in `old`, and vxrm is at most 3
-pub record Keeps (old now : Csrs) : Type 0 where
-  pub vlen : now.vlen ≡ old.vlen
-  pub vxrm : now.vxrm ≤ 3
-  pub retired : now.retired ≡ old.retired
+use Rattle.rv32_core.specs.Keeping.{Keeps}
 
 -- what holds of each value of a table
 AllValues : {A : Type 0} → (A → Type 0) → List (ℕ × A) → Type 0
@@ -38,13 +34,13 @@ write-keeps : (number value : ℕ) (csrs : Csrs) → csrs.vxrm ≤ 3 → IfSome 
 unfolding AllValues write
 write-keeps number value csrs h =
     found-holds (Keeps csrs) (writable value csrs) number (
-      record { vlen = refl; vxrm = h; retired = refl },
+      record { vlen = refl; vl = refl; vtype = refl; retired = refl; vxrm = h; vstart = λ below. mod-lt value (omega arith) },
       (
-        record { vlen = refl; vxrm = h; retired = refl },
+        record { vlen = refl; vl = refl; vtype = refl; retired = refl; vxrm = h; vstart = λ below. below },
         (
-          record { vlen = refl; vxrm = omega arith; retired = refl },
+          record { vlen = refl; vl = refl; vtype = refl; retired = refl; vxrm = omega arith; vstart = λ below. below },
           (
-            record { vlen = refl; vxrm = omega arith; retired = refl },
+            record { vlen = refl; vl = refl; vtype = refl; retired = refl; vxrm = omega arith; vstart = λ below. below },
             tt,
           ),
         ),
@@ -61,7 +57,7 @@ module _ (i : Instr) (pc : ℕ) (regs : List ℕ) (csrs : Csrs) (mem : Memory) (
   changed flow after now left k = k
 
   same : (flow : Flow) (after : List ℕ) (left : Memory) → KeptBy (effect flow after csrs left)
-  same flow after left = changed flow after csrs left record { vlen = refl; vxrm = h; retired = refl }
+  same flow after left = changed flow after csrs left record { vlen = refl; vl = refl; vtype = refl; retired = refl; vxrm = h; vstart = λ below. below }
 
   either : (test : Bool) (x y : Effect) → KeptBy x → KeptBy y → KeptBy (cond test x y)
   either true x y p q = p
@@ -104,7 +100,7 @@ module _ (i : Instr) (pc : ℕ) (regs : List ℕ) (csrs : Csrs) (mem : Memory) (
 
   after : (writes : Bool) (new : ℕ) → IfSome (csrs_after i pc regs csrs mem writes new) (Keeps csrs)
   after true new = write-keeps i.imm new csrs h
-  after false new = record { vlen = refl; vxrm = h; retired = refl }
+  after false new = record { vlen = refl; vl = refl; vtype = refl; retired = refl; vxrm = h; vstart = λ below. below }
 
   csr_at : (held : Option ℕ) (writes : Bool) (made : ℕ → ℕ → ℕ) (operand : ℕ) → KeptBy (change_effect i pc regs csrs mem held writes made operand)
   csr_at None writes made operand = same _ _ _

@@ -5,7 +5,8 @@ ghost use Rattle.rv32_decode.specs.Formats.{HasRegisters};
 ghost use Rattle.rv32_decode.specs.Spelling.{IsSpelled};
 ghost use Rattle.rvv_meaning.specs.declared.Csrs.{Csrs};
 ghost use Rattle.rvv_meaning.specs.Scalar.{effect, executed, value_effect};
-ghost use Rattle.rvv_meaning.specs.Scalar.ControlRegisters.{is_legal_vlen};
+ghost use Rattle.vtype_cfg.specs.Settings.{is_legal_vlen};
+ghost use Rattle.rv32_core.specs.Keeping.{Keeps};
 
 use crate::accesses::{BYTE, HALFWORD, Loaded, WORD, load, store};
 use crate::arithmetic::{div, divu, mulh, mulhsu, mulhu, rem, remu, slt, sltu, sra, sub};
@@ -105,7 +106,8 @@ fn perform(i: &Instr, pc: u32, regs: &mut Regs, csrs: &mut Csrs, mem: &mut Mem) 
 /// The result says where the program goes on. `Flow::Jump` has the address, `Flow::Call` is ecall, and `Flow::Trap` has
 /// the cause, the pc and the value of a trap, which leaves the registers, the control registers and the memory as they
 /// are. A misaligned target, an access without permission and an illegal access to a control register trap, as ebreak
-/// does. Loads and stores may have any alignment, and addresses wrap modulo 2^32. `retired` stays as it is.
+/// does. Loads and stores may have any alignment, and addresses wrap modulo 2^32. `retired`, `vl` and `vtype` stay as they
+/// are.
 pub fn exec(i: &Instr, pc: u32, regs: &mut Regs, csrs: &mut Csrs, mem: &mut Mem) -> Flow
     requires spelled { IsSpelled i.now }
     requires vlen { IsTrue (is_legal_vlen csrs.old.vlen) }
@@ -114,7 +116,7 @@ pub fn exec(i: &Instr, pc: u32, regs: &mut Regs, csrs: &mut Csrs, mem: &mut Mem)
     ensures regs { regs.new ≡ (executed i.now pc regs.old csrs.old mem.old).regs }
     ensures csrs { csrs.new ≡ (executed i.now pc regs.old csrs.old mem.old).csrs }
     ensures mem { mem.new ≡ (executed i.now pc regs.old csrs.old mem.old).mem }
-    ensures keeps { (csrs.new.vlen ≡ csrs.old.vlen) × (csrs.new.vxrm ≤ 3) × (csrs.new.retired ≡ csrs.old.retired) }
+    ensures keeps { Keeps csrs.old csrs.new }
 {
     perform(i, pc, regs, csrs, mem)
 }

@@ -29,6 +29,7 @@ struct Outcome {
     csrs: Csrs,
 }
 
+#[tactic(auto, unfolding(vtype_cfg::specs::Settings::is_legal_vlen, vtype_cfg::specs::Settings::legal_vlens))]
 fn run(mem: &mut Mem, word: u32, x1: u32, x2: u32) -> Option<Outcome> {
     let instruction = decode(word)?;
     let mut regs = Regs::new();

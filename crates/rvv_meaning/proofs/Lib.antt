@@ -1,2 +1,6 @@
 -- Lemmas on what programs mean.
 pub mod Calling
+pub mod Reading
+pub mod Allowing
+pub mod Elements
+mod Examples

@@ -1,8 +1,10 @@
 -- What a guest program means.
-pub mod Words
 pub mod Vectors
+pub mod Elementwise
+pub mod Arithmetic
 pub mod Calls
 pub mod States
+pub mod Allowed
 pub mod Images
 pub mod Texts
 pub mod Scalar

@@ -1,14 +1,21 @@
 -- The states of a machine, one step and a run.
-use Rattle.std.specs.Prelude.{◌==◌, ℕ, zero, suc, ◌+◌, ◌/◌, ◌^◌, Bool, true, false, List, [], ◌++◌, take, drop, min, Option, Some, None, is_some, slice_index, if◌then◌else◌}
+use Rattle.std.specs.Prelude.{◌==◌, ℕ, zero, suc, ◌+◌, Bool, true, false, List, [], ◌++◌, take, drop, Option, Some, None, is_some, slice_index, if◌then◌else◌}
 use Rattle.bit_laws.specs.Numbers.{low}
 use Rattle.guest_mem.specs.Pages.{Memory, first_bad, loaded}
 use Rattle.rv32_decode.specs.declared.instruction.Instr.{Instr}
 use Rattle.rv32_decode.specs.Rows.{means}
 use Rattle.rvv_meaning.specs.declared.Call.{Call}
 use Rattle.rvv_meaning.specs.declared.Call.TheVariants.{Read, Write, Exit, Break, Close, Seek, Unknown}
-use Rattle.rvv_meaning.specs.declared.VOp.{VOp}
-use Rattle.rvv_meaning.specs.declared.VOp.TheVariants.{Vsetivli, VxorVv, VmvVx}
-use Rattle.rvv_meaning.specs.declared.VInstr.{VInstr}
+use Rattle.rvv_decode.specs.declared.instruction.ConfigOp.{ConfigOp}
+use Rattle.rvv_decode.specs.declared.instruction.VInstr.{VInstr}
+use Rattle.rvv_decode.specs.declared.instruction.VOp.{VOp}
+use Rattle.rvv_decode.specs.declared.instruction.VOp.TheVariants.{Opi, Opm, Config, Memory as Moves}
+use Rattle.rvv_decode.specs.Rows.{means as means_vector}
+use Rattle.vtype_cfg.specs.declared.configuration.Cfg.{Cfg}
+use Rattle.vtype_cfg.specs.declared.configuration.Policy.{Policy}
+use Rattle.vtype_cfg.specs.declared.vtype.Vtype.{Vtype}
+use Rattle.vtype_cfg.specs.Legality.{is_legal}
+use Rattle.vtype_cfg.specs.Settings.{vtype_of, bits_of, configured as configuration_after}
 use Rattle.rvv_meaning.specs.declared.Meaning.TheVariants.{Scalar, Vector}
 use Rattle.rvv_meaning.specs.declared.Mode.{Mode}
 use Rattle.rvv_meaning.specs.declared.Mode.TheVariants.{Running, Exited, Trapped, Unbuilt}
@@ -17,14 +24,14 @@ use Rattle.rvv_meaning.specs.declared.Next.TheVariants.{Stop, Perform}
 use Rattle.rvv_meaning.specs.declared.Flow.{Flow}
 use Rattle.rvv_meaning.specs.declared.Flow.TheVariants.{Next as GoesOn, Jump, Call as Calls, Trap as Traps}
 use Rattle.rvv_meaning.specs.declared.Csrs.{Csrs}
-use Rattle.rvv_meaning.specs.Words.{means_vector, is_vector_word}
-use Rattle.rvv_meaning.specs.Vectors.{vectors_after}
+use Rattle.rvv_meaning.specs.Elementwise.{cfg_of}
+use Rattle.rvv_meaning.specs.Vectors.{is_built, length_asked, setting_asked, scalar_operand, vectors_after}
 use Rattle.rvv_meaning.specs.Scalar.{Effect, executed, illegal_instruction}
 use Rattle.rvv_meaning.specs.Scalar.Registers.{written}
 use Rattle.rvv_meaning.specs.Calls.{named_call, exit_code, asked_by, put_by, regs_after, memory_after}
 
 -- What a machine holds: the registers x0 to x31, the place of the next word, the control registers, the guest's memory,
--- the bytes of each vector register, and the mode.
+-- the bytes of each vector register, the mode, and what becomes of agnostic elements, which no step changes.
 pub record Core : Type 0 where
   pub regs : List ℕ
   pub pc : ℕ
@@ -32,6 +39,7 @@ pub record Core : Type 0 where
   pub mem : Memory
   pub vectors : List (List ℕ)
   pub mode : Mode
+  pub policy : Policy
 
 -- A state: what the machine holds, the input left, the output, the error output, and the bytes of both in the order
 -- in which they were written.
@@ -54,15 +62,12 @@ retired_to target c = record c { pc = target; csrs = record c.csrs { retired = c
 abbrev pub advanced : Core → Core
 advanced c = retired_to (low 32 (c.pc + 4)) c
 
--- no setting of the vector unit is in force
-abbrev pub is_vill : Core → Bool
-is_vill c = c.csrs.vtype == 2 ^ 31
+-- the vector type in force, and the configuration of the vector unit
+abbrev pub vtype_at : Core → Vtype
+vtype_at c = vtype_of c.csrs.vtype
 
--- an instruction on elements is illegal where no setting is in force
-abbrev pub is_illegal : VOp → Core → Bool
-is_illegal Vsetivli c = false
-is_illegal VxorVv c = is_vill c
-is_illegal VmvVx c = is_vill c
+abbrev pub cfg_at : Core → Cfg
+cfg_at c = cfg_of c.csrs c.policy
 
 -- a trap at pc
 abbrev pub trap : ℕ → ℕ → Core → Mode
@@ -72,10 +77,14 @@ trap cause value c = Trapped record { cause = cause; pc = c.pc; value = value }
 abbrev pub fetch_fault : ℕ
 fetch_fault = 1
 
--- what comes of a word that is no scalar instruction, and means this vector instruction or none that is built
+-- what comes of a word that is no scalar instruction, and means this vector instruction or none: the instruction must be
+-- legal, and be built
 abbrev pub next_vector : Core → ℕ → Option VInstr → Next
-next_vector c word None = if is_vector_word word then Stop Unbuilt else Stop (trap illegal_instruction word c)
-next_vector c word (Some v) = if is_illegal v.op c then Stop (trap illegal_instruction word c) else Perform (Vector v)
+next_vector c word None = Stop (trap illegal_instruction word c)
+next_vector c word (Some i) =
+    if is_legal i (vtype_at c) c.csrs.vstart
+    then (if is_built i.op then Perform (Vector i) else Stop Unbuilt)
+    else Stop (trap illegal_instruction word c)
 
 -- what comes of a word that means this scalar instruction or none
 abbrev pub next_scalar : Core → ℕ → Option Instr → Next
@@ -135,35 +144,25 @@ after_flow (Traps t) c taken = record c { mode = Trapped t }
 abbrev pub executed_scalar : Instr → Core → List ℕ → Core
 executed_scalar i c taken = after_flow (effect_at i c).flow (with_effect (effect_at i c) c) taken
 
--- the length that a setting of 32-bit elements gets: what is asked for, or what a register holds
-abbrev pub new_length : ℕ → Core → ℕ
-new_length asked c = min asked (c.csrs.vlen / 32)
+-- what a configuration leaves: the new vector type and length, the length in rd, and vstart 0 (vector extension 1.0,
+-- section 6)
+abbrev pub set_to : Vtype × ℕ → VInstr → Core → Core
+set_to new i c = advanced (record c { regs = written c.regs i.vd new.1; csrs = record c.csrs { vstart = 0; vl = new.1; vtype = bits_of new.0 } })
 
--- the bits of the setting e32, m1, ta, ma
-abbrev pub setting : ℕ
-setting = 0xd0
+unfoldable pub configured : ConfigOp → VInstr → Core → Core
+configured op i c = set_to (configuration_after (vtype_at c) c.csrs.vl (length_asked op i c.regs) (setting_asked op i c.regs) c.csrs.vlen) i c
 
--- what a configuration leaves: the length in rd, the setting, and vstart 0
-abbrev pub configured : VInstr → Core → Core
-configured i c =
-    advanced (record c { regs = written c.regs i.vd (new_length i.vs1 c); csrs = record c.csrs { vstart = 0; vl = new_length i.vs1 c; vtype = setting } })
-
--- the scalar that a vector instruction takes
-abbrev pub scalar_operand : VOp → VInstr → Core → ℕ
-scalar_operand Vsetivli i c = 0
-scalar_operand VxorVv i c = 0
-scalar_operand VmvVx i c = reg c i.vs1
-
--- what an instruction on elements leaves
-abbrev pub elementwise : VInstr → Core → Core
+-- what an instruction on elements leaves: the vector registers, and vstart 0
+unfoldable pub elementwise : VInstr → Core → Core
 elementwise i c =
-    advanced (record c { csrs = record c.csrs { vstart = 0 }; vectors = vectors_after i c.csrs (scalar_operand i.op i c) c.vectors })
+    advanced (record c { csrs = record c.csrs { vstart = 0 }; vectors = vectors_after i (cfg_at c) (scalar_operand i c.regs) c.vectors })
 
 -- what a vector instruction leaves
 abbrev pub executed_vector : VOp → VInstr → Core → Core
-executed_vector Vsetivli i c = configured i c
-executed_vector VxorVv i c = elementwise i c
-executed_vector VmvVx i c = elementwise i c
+executed_vector (Config op) i c = configured op i c
+executed_vector (Opi op) i c = elementwise i c
+executed_vector (Opm op) i c = elementwise i c
+executed_vector (Moves op) i c = elementwise i c
 
 -- what a step leaves in the machine that took these bytes of the input: a stop changes the mode alone
 abbrev pub carried_out : Next → Core → List ℕ → Core

@@ -1,44 +1,65 @@
--- What the vector instructions do to the vector registers, as arithmetic on whole elements of lists of bytes.
-use Rattle.std.specs.Prelude.{ℕ, ◌+◌, ◌*◌, ◌/◌, ◌%◌, Bool, true, false, ◌&&◌, List, [], nat_lt, nat_le, slice_index, slice_index_or, slice_set, bit_xor, if◌then◌else◌}
-use Rattle.bit_laws.specs.Numbers.{little, byte_of, low}
-use Rattle.bit_laws.specs.Lists.{tabulate}
-use Rattle.rvv_meaning.specs.declared.VOp.{VOp}
-use Rattle.rvv_meaning.specs.declared.VOp.TheVariants.{Vsetivli, VxorVv, VmvVx}
-use Rattle.rvv_meaning.specs.declared.VInstr.{VInstr}
-use Rattle.rvv_meaning.specs.declared.Csrs.{Csrs}
+-- What the vector instructions do that are built: configuration, and the bitwise operations and copies of elements.
+use Rattle.std.specs.Prelude.{◌==◌, not, ℕ, Bool, true, false, List, Option, None, is_some, slice_index, if◌then◌else◌}
+use Rattle.std.specs.Option.{option_map_or}
+use Rattle.rvv_decode.specs.declared.instruction.ConfigOp.{ConfigOp}
+use Rattle.rvv_decode.specs.declared.instruction.ConfigOp.TheVariants.{Vsetvli, Vsetivli, Vsetvl}
+use Rattle.rvv_decode.specs.declared.instruction.Form.{Form}
+use Rattle.rvv_decode.specs.declared.instruction.Form.TheVariants.{V, X, I}
+use Rattle.rvv_decode.specs.declared.instruction.VInstr.{VInstr}
+use Rattle.rvv_decode.specs.declared.instruction.VOp.{VOp}
+use Rattle.rvv_decode.specs.declared.instruction.VOp.TheVariants.{Opi, Opm, Config, Memory}
+use Rattle.vtype_cfg.specs.declared.configuration.Avl.{Avl}
+use Rattle.vtype_cfg.specs.declared.configuration.Avl.TheVariants.{Given, Max, Keep}
+use Rattle.vtype_cfg.specs.declared.configuration.Cfg.{Cfg}
+use Rattle.rvv_meaning.specs.Arithmetic.{value_of, elementwise_of}
+use Rattle.rvv_meaning.specs.Elementwise.{Elementwise, registers_after}
 
--- byte j of register r
-abbrev pub byte_at : List (List ℕ) → ℕ → ℕ → ℕ
-byte_at v r j = slice_index (slice_index_or v r []) j
+-- how many elements a configuration asks for (vector extension 1.0, section 6.2): an immediate; or what x[rs1] holds where
+-- rs1 is not x0; or all that a group has where rd is not x0; or as many as before
+abbrev pub length_of_register : VInstr → List ℕ → Avl
+length_of_register i regs = if not (i.vs1 == 0) then Given (slice_index regs i.vs1) else if not (i.vd == 0) then Max else Keep
 
--- element e of register r: the little-endian number of its four bytes
-unfoldable pub element : List (List ℕ) → ℕ → ℕ → ℕ
-element v r e = little 4 (λ k. byte_at v r (4 * e + k))
+abbrev pub length_asked : ConfigOp → VInstr → List ℕ → Avl
+length_asked Vsetivli i regs = Given i.vs1
+length_asked Vsetvli i regs = length_of_register i regs
+length_asked Vsetvl i regs = length_of_register i regs
 
--- an element is active from vstart on and below vl; the others keep their value
-abbrev pub is_active : Csrs → ℕ → Bool
-is_active csrs e = nat_le csrs.vstart e && nat_lt e csrs.vl
+-- the bits of the vector type that it asks for: an immediate, or what x[rs2] holds (section 6.1)
+abbrev pub setting_asked : ConfigOp → VInstr → List ℕ → ℕ
+setting_asked Vsetivli i regs = i.zimm
+setting_asked Vsetvli i regs = i.zimm
+setting_asked Vsetvl i regs = slice_index regs i.vs2
 
--- the bytes of a register whose active elements get these values
-unfoldable pub with_elements : Csrs → (ℕ → ℕ) → List (List ℕ) → ℕ → List ℕ
-with_elements csrs value v r =
-    tabulate (csrs.vlen / 8) (λ j. if is_active csrs (j / 4) then byte_of (value (j / 4)) (j % 4) else byte_at v r j)
+-- the scalar that an instruction takes: what x[rs1] holds in a form with a scalar
+abbrev pub scalar_in_form : Form → VInstr → List ℕ → ℕ
+scalar_in_form V i regs = 0
+scalar_in_form X i regs = slice_index regs i.vs1
+scalar_in_form I i regs = 0
 
--- the value of an element of an arithmetic instruction, from its element of vs2, its element of vs1 and the scalar
-abbrev pub element_value : VOp → ℕ → ℕ → ℕ → ℕ
-element_value Vsetivli a b x = a
-element_value VxorVv a b x = bit_xor a b
-element_value VmvVx a b x = low 32 x
+abbrev pub scalar_operand : VInstr → List ℕ → ℕ
+scalar_operand i regs = scalar_in_form i.form i regs
 
--- whether an instruction writes elements of vd
-abbrev pub writes_elements : VOp → Bool
-writes_elements Vsetivli = false
-writes_elements VxorVv = true
-writes_elements VmvVx = true
+-- whether an operation is one on elements that is built
+abbrev pub on_elements_is_built : VOp → Bool
+on_elements_is_built (Opi op) = is_some (value_of op)
+on_elements_is_built (Opm op) = false
+on_elements_is_built (Config op) = false
+on_elements_is_built (Memory op) = false
 
--- the vector registers after an instruction that takes this scalar
-unfoldable pub vectors_after : VInstr → Csrs → ℕ → List (List ℕ) → List (List ℕ)
-vectors_after i csrs x v =
-    if writes_elements i.op
-    then slice_set v i.vd (with_elements csrs (λ e. element_value i.op (element v i.vs2 e) (element v i.vs1 e) x) v i.vd)
-    else v
+-- whether an instruction is built
+abbrev pub is_built : VOp → Bool
+is_built (Opi op) = is_some (value_of op)
+is_built (Opm op) = false
+is_built (Config op) = true
+is_built (Memory op) = false
+
+-- what an instruction does to elements
+abbrev pub operation_of : VOp → VInstr → Cfg → (scalar : ℕ) → Option Elementwise
+operation_of (Opi op) i c scalar = elementwise_of i op c scalar
+operation_of (Opm op) i c scalar = None
+operation_of (Config op) i c scalar = None
+operation_of (Memory op) i c scalar = None
+
+-- the vector registers after an instruction with this scalar
+unfoldable pub vectors_after : VInstr → Cfg → (scalar : ℕ) → List (List ℕ) → List (List ℕ)
+vectors_after i c scalar v = option_map_or (λ e. registers_after c e v) (operation_of i.op i c scalar) v

@@ -2,29 +2,18 @@
 //! definitions stand in specs/; the types here are those that both the definitions and the code name.
 #![tactic(auto)]
 
+mod readers;
+#[cfg(test)]
+mod tests;
+
 use guest_mem::Trap;
+pub use readers::{el, mask_bit};
 use rv32_decode::Instr;
-
-/// The vector instructions by their names (RISC-V vector extension 1.0, sections 6 and 11).
-#[derive(Clone, Copy, Debug, PartialEq, Eq)]
-pub enum VOp {
-    Vsetivli,
-    VxorVv,
-    VmvVx,
-}
-
-/// A vector word taken apart. `vd` holds rd of a configuration word, and `vs1` the field of bits 19 to 15: a vector
-/// register, a scalar register or an immediate.
-#[derive(Clone, Copy, Debug, PartialEq, Eq)]
-pub struct VInstr {
-    pub op: VOp,
-    pub vd: u8,
-    pub vs1: u8,
-    pub vs2: u8,
-}
+use rvv_decode::VInstr;
+pub use vtype_cfg::Policy;
 
 /// What a word means.
-#[derive(Clone, Copy, Debug, PartialEq, Eq)]
+#[derive(Clone, Copy, PartialEq, Eq)]
 pub enum Meaning {
     Scalar(Instr),
     Vector(VInstr),
@@ -41,17 +30,10 @@ pub enum Mode {
 }
 
 /// What comes at pc: the machine stops there in a mode, or an instruction is to be carried out.
-#[derive(Clone, Copy, Debug, PartialEq, Eq)]
+#[derive(Clone, Copy, PartialEq, Eq)]
 pub enum Next {
     Stop(Mode),
     Perform(Meaning),
-}
-
-/// What a vector instruction leaves in an agnostic element: its old value, or all ones.
-#[derive(Clone, Copy, Debug, PartialEq, Eq)]
-pub enum Policy {
-    Keep,
-    Ones,
 }
 
 /// The control registers: the vector ones, the length of a vector register in bits, and the number of retired

@@ -1,4 +1,4 @@
-pub mod OneElement
-pub mod Registers
-pub mod Realising
+-- The programs as the code writes them, and what they do.
 pub mod Written
+pub mod Planned
+pub mod GoodKinds

@@ -1,70 +1,134 @@
--- The program of an instruction, and when a list realises one.
-use Rattle.std.specs.Prelude.{◌≡◌, ℕ, ◌+◌, ◌*◌, ◌^◌, ◌<◌, ◌≤◌, Bool, true, false, List, [], ◌∷◌, ◌++◌}
+-- The program of an instruction, what it costs, and when a list realises an instruction.
+use Rattle.std.specs.Prelude.{◌≡◌, ◌⊎◌, ◌<◌, ℕ, zero, suc, ◌+◌, ◌*◌, ◌/◌, Bool, true, false, cond, not, List, [], ◌∷◌, ◌++◌, is_some}
+use Rattle.bit_rows.specs.Slices.{Slices}
+use Rattle.cam_chain.specs.ChainValue.{no_counts}
 use Rattle.cam_chain.specs.declared.counts.Counts.{Counts}
-use Rattle.cam_chain.specs.Slices.{Slices}
 use Rattle.cam_chain.specs.Views.{registers_of}
+use Rattle.frame_classes.specs.Operands.{row_of}
+use Rattle.frame_classes.specs.Plain.{plain_body}
+use Rattle.frame_laws.specs.Pieces.{splat, fill_step}
+use Rattle.frame_laws.specs.Shapes.{Shape, Bounds, usual_bounds}
+use Rattle.frame_meaning.specs.Costs.{cost_of}
+use Rattle.frame_meaning.specs.Shapes.{has_scalar, scalar_of, two_operand_shape, two_operand_program}
+use Rattle.mask_window.specs.Operations.{active_operation, free_operation}
+use Rattle.micro_ir.specs.Steps.{micros}
 use Rattle.micro_ir.specs.declared.op.MicroOp.{MicroOp}
-use Rattle.micro_ir.specs.declared.op.MicroOp.TheVariants.{Window}
 use Rattle.micro_ir.specs.Replay.{replay}
-use Rattle.micro_ir.specs.Steps.{Step, micros}
-use Rattle.rvv_meaning.specs.declared.VOp.{VOp}
-use Rattle.rvv_meaning.specs.declared.VOp.TheVariants.{Vsetivli, VxorVv, VmvVx}
-use Rattle.rvv_meaning.specs.declared.VInstr.{VInstr}
-use Rattle.rvv_meaning.specs.declared.Csrs.{Csrs}
+use Rattle.rvv_decode.specs.declared.instruction.OpiOp.{OpiOp}
+use Rattle.rvv_decode.specs.declared.instruction.OpiOp.TheVariants.{Vrgather, Vrgatherei16}
+use Rattle.rvv_decode.specs.declared.instruction.OpmOp.{OpmOp}
+use Rattle.rvv_decode.specs.declared.instruction.OpmOp.TheVariants.{VmvXS, Vcompress, Viota}
+use Rattle.rvv_decode.specs.declared.instruction.Form.{Form}
+use Rattle.rvv_decode.specs.declared.instruction.Form.TheVariants.{V, X, I}
+use Rattle.rvv_decode.specs.declared.instruction.VInstr.{VInstr}
+use Rattle.rvv_decode.specs.declared.instruction.VOp.{VOp}
+use Rattle.rvv_decode.specs.declared.instruction.VOp.TheVariants.{Opi, Opm, Config, Memory}
+use Rattle.vtype_cfg.specs.declared.configuration.Cfg.{Cfg}
+use Rattle.rvv_meaning.specs.Arithmetic.{value_of}
+use Rattle.rvv_meaning.specs.Elementwise.{is_ones}
 use Rattle.rvv_meaning.specs.Vectors.{vectors_after}
-use Rattle.vec_exec.specs.Recipes.{active_row, scalar_row, xor_steps, move_steps, splat_steps}
+use Rattle.vec_exec.specs.Kinds.{kind_of, operands_of, value_in, each_of}
 
--- the width of the elements, in bits
-abbrev pub width : ℕ
-width = 32
+-- whether an instruction is carried out by a program: not a gather by a vector of indices, a compression, an iota, a move
+-- to a scalar register, a configuration, a load or a store
+abbrev pub gathers_by : Form → Bool
+gathers_by V = false
+gathers_by X = true
+gathers_by I = true
 
--- the active elements of a register become 1 in the active row
-abbrev pub active_window : Csrs → MicroOp
-active_window csrs = Window active_row width 0 csrs.vstart csrs.vl false
+abbrev pub is_opi_engine : OpiOp → Form → Bool
+is_opi_engine Vrgather form = gathers_by form
+is_opi_engine Vrgatherei16 form = false
+is_opi_engine _ form = true
 
--- the operations on the one register that an instruction writes
-abbrev pub register_program : VOp → VInstr → Csrs → List MicroOp
-register_program Vsetivli i csrs = []
-register_program VxorVv i csrs = active_window csrs ∷ micros width (xor_steps width i.vs2 i.vs1 i.vd)
-register_program VmvVx i csrs = active_window csrs ∷ micros width (move_steps width scalar_row i.vd)
+abbrev pub is_opm_engine : OpmOp → Bool
+is_opm_engine VmvXS = false
+is_opm_engine Vcompress = false
+is_opm_engine Viota = false
+is_opm_engine _ = true
 
--- the operations that make the scalar ready
-abbrev pub splat_program : VOp → ℕ → List MicroOp
-splat_program Vsetivli x = []
-splat_program VxorVv x = []
-splat_program VmvVx x = micros width (splat_steps width x)
+abbrev pub is_engine_op : VOp → Form → Bool
+is_engine_op (Opi op) form = is_opi_engine op form
+is_engine_op (Opm op) form = is_opm_engine op
+is_engine_op (Config op) form = false
+is_engine_op (Memory op) form = false
 
--- the program of an instruction under these control registers and with this scalar
-unfoldable pub prog : VInstr → Csrs → ℕ → List MicroOp
-prog i csrs x = splat_program i.op x ++ register_program i.op i csrs
+unfoldable pub is_engine : VInstr → Bool
+is_engine i = is_engine_op i.op i.form
 
--- whether an instruction is carried out by a program
-abbrev pub is_engine : VOp → Bool
-is_engine Vsetivli = false
-is_engine VxorVv = true
-is_engine VmvVx = true
+-- an instruction under a configuration and with this scalar
+module _ (op : OpiOp) (i : VInstr) (c : Cfg) (scalar : ℕ) where
+  -- its shape, and the bounds of its windows
+  abbrev pub shape : Shape
+  shape = two_operand_shape i c scalar (operands_of op i) (value_in op)
 
--- the searches, updates and passes of the program of an instruction: 5 and 4 for the exclusive or; 2 and 2 for the
--- scalar and 4 and 4 for the move
-abbrev pub cost : VOp → Counts
-cost Vsetivli = record { searches = 0; updates = 0; passes = 0 }
-cost VxorVv = record { searches = 5; updates = 4; passes = 0 }
-cost VmvVx = record { searches = 6; updates = 6; passes = 0 }
+  abbrev pub bounds : Bounds
+  bounds = usual_bounds shape
 
--- the number of operations of the program of an instruction
-abbrev pub program_length : VOp → ℕ
-program_length Vsetivli = 0
-program_length VxorVv = 10
-program_length VmvVx = 13
+  -- the list of register g of the destination
+  abbrev pub body : (g : ℕ) → List MicroOp
+  body g = plain_body shape (operands_of op i) (kind_of op c.vtype.sew) g
+
+  -- its program
+  abbrev pub program_in : List MicroOp
+  program_in = two_operand_program i c scalar (operands_of op i) (value_in op) (kind_of op c.vtype.sew)
+
+-- ones into the free elements of a register, where free elements become ones
+abbrev pub fill_list : Cfg → (first : ℕ) → (masked : Bool) → (to : ℕ) → List MicroOp
+fill_list c first masked to =
+    cond (is_ones c.policy) (free_operation c c.vtype.sew first masked c.vtype.vta ∷ micros c.vtype.sew (fill_step c.vtype.sew to ∷ [])) []
+
+-- the operations on register g of the destination: those that mark its elements, the kind's, and the fill
+unfoldable pub register_list : OpiOp → VInstr → Cfg → (g : ℕ) → List MicroOp
+register_list op i c g =
+    let first = g * (c.vlen / c.vtype.sew) in
+    active_operation c c.vtype.sew first (not i.vm)
+    ∷ (kind_of op c.vtype.sew (row_of (operands_of op i).a g) (row_of (operands_of op i).b g) (row_of (operands_of op i).addend g) (i.vd + g) ++ fill_list c first (not i.vm) (i.vd + g))
+
+-- the operations on the first registers of the destination
+unfoldable pub registers_list : OpiOp → VInstr → Cfg → (count : ℕ) → List MicroOp
+registers_list op i c zero = []
+registers_list op i c (suc g) = registers_list op i c g ++ register_list op i c g
+
+-- the operations that put the scalar into its row, where there is one
+abbrev pub scalar_list : VInstr → Cfg → (scalar : ℕ) → List MicroOp
+scalar_list i c x = cond (has_scalar i.form) (micros c.vtype.sew (splat c.vtype.sew (scalar_of i c x))) []
+
+-- the widths of elements
+abbrev pub IsElementWidth : ℕ → Type 0
+IsElementWidth w = (w ≡ 8) ⊎ ((w ≡ 16) ⊎ (w ≡ 32))
+
+-- register g of the destination and the rows of its operands are there, and the kind is built
+pub record IsPlaced (op : OpiOp) (i : VInstr) (c : Cfg) (g : ℕ) : Type 0 where
+  pub built : is_some (value_of op) ≡ true
+  pub sew : IsElementWidth c.vtype.sew
+  pub vd : i.vd + g < 32
+  pub a : row_of (operands_of op i).a g < 36
+  pub b : row_of (operands_of op i).b g < 36
+
+-- the program of an instruction, of those that are built
+abbrev pub program_of : VOp → VInstr → Cfg → (scalar : ℕ) → List MicroOp
+program_of (Opi op) i c x = program_in op i c x
+program_of (Opm op) i c x = []
+program_of (Config op) i c x = []
+program_of (Memory op) i c x = []
+
+unfoldable pub prog : VInstr → Cfg → (scalar : ℕ) → List MicroOp
+prog i c x = program_of i.op i c x
+
+-- the searches, updates and passes of the program of an instruction: of its scalar, and for each register of the
+-- destination of the kind and, where free elements become ones, of the fill
+abbrev pub cost_in : VOp → VInstr → Cfg → Counts
+cost_in (Opi op) i c = cost_of i c (each_of op)
+cost_in (Opm op) i c = no_counts
+cost_in (Config op) i c = no_counts
+cost_in (Memory op) i c = no_counts
+
+unfoldable pub cost : VInstr → Cfg → Counts
+cost i c = cost_in i.op i c
 
 -- The list realises the instruction: from slices whose control number is 0, its replay leaves the registers that the
 -- instruction means for the registers before.
-unfoldable pub Realises : VInstr → Csrs → ℕ → List MicroOp → Type 0
-Realises i csrs x ops =
-    (s : Slices) → s.num ≡ 0 → csrs.vlen ≡ 32 * s.columns → registers_of (replay ops s) ≡ vectors_after i csrs x (registers_of s)
-
--- the fields of an instruction name registers
-pub record NamesRegisters (i : VInstr) : Type 0 where
-  pub vd : i.vd < 32
-  pub vs1 : i.vs1 < 32
-  pub vs2 : i.vs2 < 32
+unfoldable pub Realises : VInstr → Cfg → (scalar : ℕ) → List MicroOp → Type 0
+Realises i c x ops =
+    (s : Slices) → s.num ≡ 0 → c.vlen ≡ 32 * s.columns → registers_of (replay ops s) ≡ vectors_after i c x (registers_of s)

@@ -3,7 +3,6 @@
 
 mod pieces;
 mod planning;
-#[cfg(test)]
-mod tests;
+mod splat;
 
 pub use planning::{engine, plan};

@@ -1,2 +1,3 @@
 pub mod Supported
 pub mod Configured
+pub mod Lengths

@@ -24,7 +24,7 @@ at_some_row test sew lmul8 (s ∷ rows) all any =
     (or_cases ((s.sew == sew) && (s.lmul8 == lmul8)) (list_any (λ s. (s.sew == sew) && (s.lmul8 == lmul8)) rows) any)
 
 -- a test that each supported setting passes is passed by a supported vector type
-at_supported : (test : ℕ → ℕ → Bool) (vt : Vtype) → list_all (λ s. test s.sew s.lmul8) settings ≡ true → is_supported vt ≡ true → test vt.sew vt.lmul8 ≡ true
+pub at_supported : (test : ℕ → ℕ → Bool) (vt : Vtype) → list_all (λ s. test s.sew s.lmul8) settings ≡ true → is_supported vt ≡ true → test vt.sew vt.lmul8 ≡ true
 unfolding is_supported
 at_supported test vt all supported = at_some_row test vt.sew vt.lmul8 settings all (and_parts (not vt.vill) _ supported).1
 

@@ -76,5 +76,5 @@ obeys_rules class i vt vstart =
     && writes_legally class i (destination_of class i vt) (sources_of class i vt)
 
 -- the instruction is legal under this vector type, at this first element
-abbrev pub is_legal : VInstr → Vtype → ℕ → Bool
+unfoldable pub is_legal : VInstr → Vtype → ℕ → Bool
 is_legal i vt vstart = obeys_rules (class_of i.op) i vt vstart

@@ -31,7 +31,9 @@ const REGISTERS: u32 = 32;
 
 const MASK_REGISTER: u32 = 0;
 
-/// Whether an instruction is legal under a vector type where its first element is `vstart`. No rule depends on VLEN.
+/// Whether an instruction is legal under a vector type where its first element is `vstart`. One that is not traps as an
+/// illegal instruction, and changes nothing, `vstart` neither. No rule depends on VLEN.
+#[tactic(auto, unfolding(crate::specs::Legality::is_legal))]
 pub fn legal(i: &VInstr, vt: &Vtype, vstart: u32, vlen: u32) -> bool
     requires { IsTrue (is_vill_or_supported vt.now) }
     ensures { result ≡ is_legal i.now vt.now vstart }

@@ -2,19 +2,9 @@
 -- extension 1.0, sections 3.4 to 3.10) and the counters (chapter Zicntr).
 use Rattle.std.specs.Prelude.{◌==◌, ℕ, ◌+◌, ◌*◌, ◌/◌, ◌%◌, ◌^◌, Bool, List, [], ◌∷◌, Option, find, bit_and, bit_or}
 use Rattle.std.specs.Int.{w32, bit_not, from_bool}
-use Rattle.std.specs.List.{list_any}
 use Rattle.std.specs.Option.{option_map}
 use Rattle.rvv_meaning.specs.declared.Csrs.{Csrs}
 use Rattle.rvv_meaning.specs.Scalar.CsrNumbers as number
-
--- the lengths that a vector register may have, in bits: powers of two from 32 on (vector extension 1.0, section 2)
-abbrev pub legal_vlens : List ℕ
-legal_vlens =
-    32 ∷ 64 ∷ 128 ∷ 256 ∷ 512 ∷ 1024 ∷ 2048 ∷ 4096 ∷ 8192 ∷ 16384 ∷ 32768 ∷ 65536 ∷ []
-
--- the length is one of them (vector extension 1.0, section 2)
-abbrev pub is_legal_vlen : ℕ → Bool
-is_legal_vlen vlen = list_any (λ length. length == vlen) legal_vlens
 
 -- what a table has at a number
 abbrev pub entry_at : {A : Type 0} → List (ℕ × A) → ℕ → Option A

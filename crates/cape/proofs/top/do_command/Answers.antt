@@ -45,4 +45,4 @@ returns-in-Err-ReadFault-clause-fronts g c = λ is image input told left. record
 pub returns-in-Run-clause-reads : goal.returns-in-Run-clause-reads
 returns-in-Run-clause-reads g c = λ is image input told left.
     let from = c.in-Ok.ensures.loaded image told in
-    rw (c.in-Run.is) (inr (from.sound, rw (start_loaded image input c.in-Ok.loaded from) (c.run_loaded.ensures.reads is input left)))
+    rw (c.in-Run.is) (inr (from.sound, rw (start_loaded c.in-Run.options.vlen c.in-Run.options.policy image input c.in-Ok.loaded from) (c.run_loaded.ensures.reads is input left)))

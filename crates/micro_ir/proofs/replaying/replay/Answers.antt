@@ -16,14 +16,14 @@ loop-i-init c = record {
 
 pub apply-requires-clause-in_range : goal.apply-requires-clause-in_range
 apply-requires-clause-in_range c =
-    IsInRange-at c.args.first _ c.loop-i.i _ c.requires.in_range c.loop-i-test.true (let w = c.requires.within in omega arith) (rw c.ops-ops.ensures.value at c.index-ops-i.is)
+    rw c.loop-i.invariant.columns (IsInRange-at c.args.chain.now.columns c.args.first _ c.loop-i.i _ c.requires.in_range c.loop-i-test.true (let w = c.requires.within in omega arith) (rw c.ops-ops.ensures.value at c.index-ops-i.is))
 
 pub loop-i-preserved : goal.loop-i-preserved
 loop-i-preserved c =
     let p = c.loop-i.invariant in
     let at = rw c.ops-ops.ensures.value at c.index-ops-i.is in
     let inside : c.loop-i.i < length c.args.buf.now.ops = let w = c.requires.within in omega arith in
-    let few = counts_in-few c.index-ops-i.result (IsInRange-at c.args.first _ c.loop-i.i _ c.requires.in_range c.loop-i-test.true inside at) in
+    let few = counts_in-few c.args.chain.now.columns c.index-ops-i.result (IsInRange-at c.args.chain.now.columns c.args.first _ c.loop-i.i _ c.requires.in_range c.loop-i-test.true inside at) in
     record {
       slices = c.apply.ensures.slices c.args.ctl.now.num ∙ rw p.slices (sym (replay_more _ c.loop-i.i c.index-ops-i.result _ inside at));
       counted = c.apply.ensures.counted ∙ rw p.counted (rw (tally_more _ c.loop-i.i c.index-ops-i.result inside at) (sym (counts_and-assoc _ _ _)));

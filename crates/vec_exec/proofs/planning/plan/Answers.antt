@@ -1,16 +1,35 @@
-use Rattle.vec_exec.proofs.Realising.{prog-realises}
-use Rattle.vec_exec.proofs.Written.{measured}
+use Rattle.std.proofs.Common.{◌≡◌, ◌∙◌, ◌≤◌, ◌+◌, ◌*◌, ◌/◌, length, refl, sym, ap, arith}
+use Rattle.micro_ir.specs.Replay.{tally}
+use Rattle.vec_exec.specs.Programs.{program_in}
+use Rattle.vec_exec.proofs.Planned.{prog-is, cost-is, realised, measured, tally-few}
 use Rattle.vec_exec.proofs.planning.plan.Goals as goal
 
 pub returns-clause-realises : goal.returns-clause-realises
-returns-clause-realises c = rw c.write_program.ensures.program (prog-realises c.args.i.now c.args.csrs.now c.args.scalar c.requires.registers)
+returns-clause-realises c =
+    rw (c.emit_program.ensures.program, prog-is c.in-Opi.op c.args.i.now c.args.cfg.now c.args.scalar c.in-Opi.is)
+    (realised c.args.i.now c.args.cfg.now c.args.scalar c.requires.valid c.requires.legal c.in-Opi.op c.in-Opi.is (rw c.in-Opi.is at c.requires.built) c.requires.fields.vs1)
 
 pub returns-clause-cost : goal.returns-clause-cost
-returns-clause-cost c = rw c.write_program.ensures.program (measured c.args.i.now c.args.csrs.now c.args.scalar c.requires.registers.vd).cost_is
+returns-clause-cost c =
+    let m = measured c.args.i.now c.args.cfg.now c.args.scalar c.requires.valid c.requires.legal c.in-Opi.op c.in-Opi.is (rw c.in-Opi.is at c.requires.built) c.requires.fields.vs1 in
+    rw (c.emit_program.ensures.program, prog-is c.in-Opi.op c.args.i.now c.args.cfg.now c.args.scalar c.in-Opi.is, cost-is c.in-Opi.op c.args.i.now c.args.cfg.now c.in-Opi.is) m.cost
 
 pub returns-clause-range : goal.returns-clause-range
-returns-clause-range c = rw c.write_program.ensures.program (measured c.args.i.now c.args.csrs.now c.args.scalar c.requires.registers.vd).range
+returns-clause-range c =
+    let m = measured c.args.i.now c.args.cfg.now c.args.scalar c.requires.valid c.requires.legal c.in-Opi.op c.in-Opi.is (rw c.in-Opi.is at c.requires.built) c.requires.fields.vs1 in
+    rw (c.emit_program.ensures.program, prog-is c.in-Opi.op c.args.i.now c.args.cfg.now c.args.scalar c.in-Opi.is) m.range
 
-pub returns-clause-spare : goal.returns-clause-spare
-returns-clause-spare c =
-    rw (c.write_program.ensures.program, (measured c.args.i.now c.args.csrs.now c.args.scalar c.requires.registers.vd).long) c.write_program.ensures.spare
+pub returns-clause-searches : goal.returns-clause-searches
+returns-clause-searches c =
+    let f = tally-few (c.args.cfg.now.vlen / 32) c.emit_program.new.buf.ops (returns-clause-range c) in
+    omega (arith, f.searches, c.emit_program.ensures.spare, c.requires.room)
+
+pub returns-clause-updates : goal.returns-clause-updates
+returns-clause-updates c =
+    let f = tally-few (c.args.cfg.now.vlen / 32) c.emit_program.new.buf.ops (returns-clause-range c) in
+    omega (arith, f.updates, c.emit_program.ensures.spare, c.requires.room)
+
+pub returns-clause-passes : goal.returns-clause-passes
+returns-clause-passes c =
+    let f = tally-few (c.args.cfg.now.vlen / 32) c.emit_program.new.buf.ops (returns-clause-range c) in
+    omega (arith, f.passes, c.emit_program.ensures.spare, c.requires.room)

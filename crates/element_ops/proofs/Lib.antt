@@ -1,0 +1,4 @@
+-- Laws of elements.
+pub mod Bytes
+pub mod Reading
+pub mod Writing

@@ -1,0 +1,21 @@
+-- How an element of a destination stands to the instruction that writes it, and what becomes of one that is not computed
+-- (vector extension 1.0, sections 3.4.3 and 5.3 to 5.4).
+use Rattle.std.specs.Prelude.{ℕ, Bool, cond, ◌&&◌, ◌||◌, not, ◌-◌, ◌^◌}
+use lib.Dec.{ltb}
+
+-- before the first element that is computed; computed; left out by the mask; behind the last one
+pub data Place : Type 0 where
+  prestart : Place
+  active : Place
+  masked_off : Place
+  tail : Place
+
+-- The place of element e. `vstart` is the element that the instruction starts at. Its elements run from `from` on and below
+-- `len`, which are usually vstart and vl. `mask` has the bits of v0.
+abbrev pub place_of : (vstart from len : ℕ) (masked : Bool) (mask : ℕ → Bool) → ℕ → Place
+place_of vstart from len masked mask e =
+    cond (ltb e vstart || (ltb e from && ltb e len)) prestart (cond (ltb e len) (cond (not masked || mask e) active masked_off) tail)
+
+-- what a free element of w bits becomes: all ones where the policy is ones, and else what it was
+abbrev pub freed : (ones : Bool) (w old : ℕ) → ℕ
+freed ones w old = cond ones (2 ^ w - 1) old

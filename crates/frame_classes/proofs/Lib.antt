@@ -1,0 +1,2 @@
+-- The proofs of the classes' laws.
+pub mod Plain

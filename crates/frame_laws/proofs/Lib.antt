@@ -1,0 +1,8 @@
+-- The proofs of the frame's laws.
+pub mod Elements
+pub mod OneElement
+pub mod Ends
+pub mod Windows
+pub mod Registers
+pub mod Costs
+pub mod Bytes

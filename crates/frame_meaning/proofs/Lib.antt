@@ -1,0 +1,3 @@
+-- The proofs of the laws of instructions in the frame.
+pub mod Meaning
+pub mod Instructions

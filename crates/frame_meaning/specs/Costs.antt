@@ -1,0 +1,52 @@
+-- What the programs of instructions cost, how long they are, and that a chain can run them.
+use Rattle.std.specs.Prelude.{◌≡◌, ℕ, ◌+◌, ◌*◌, ◌<◌, cond, List, length}
+use Rattle.bit_rows.specs.Slices.{Slices}
+use Rattle.cam_chain.specs.ChainValue.{no_counts}
+use Rattle.cam_chain.specs.declared.counts.Counts.{Counts}
+use Rattle.micro_ir.specs.declared.op.MicroOp.{MicroOp}
+use Rattle.micro_ir.specs.Replay.{AllInRange, counts_and, tally}
+use Rattle.rvv_decode.specs.declared.instruction.VInstr.{VInstr}
+use Rattle.vtype_cfg.specs.declared.configuration.Cfg.{Cfg}
+use Rattle.vtype_cfg.specs.Classes.{Class, plain, move, class_of}
+use Rattle.rvv_meaning.specs.Elementwise.{is_ones}
+use Rattle.legal_groups.specs.Facts.{group_count}
+use Rattle.frame_laws.specs.Costs.{counts_times}
+use Rattle.frame_classes.specs.Operands.{IsOperandRow}
+use Rattle.frame_classes.specs.Plain.{Operands, Kind}
+use Rattle.frame_meaning.specs.Shapes.{has_scalar, plain_operands, move_operands, two_operand_program}
+use Rattle.frame_meaning.specs.Laws.{Runs}
+
+-- A kind's lists count alike and are equally long wherever they stand, and a chain of any number of columns can run them.
+abbrev pub KindCosts : Kind → (each : Counts) → (long : ℕ) → Type 0
+KindCosts kind each long =
+    (a b addend to : ℕ) → IsOperandRow a → IsOperandRow b → IsOperandRow addend → to < 32
+    → (tally (kind a b addend to) ≡ each) × (length (kind a b addend to) ≡ long) × ((columns : ℕ) → AllInRange columns (kind a b addend to))
+
+-- The searches, updates and passes of an instruction whose list for a register makes `each`: those that put its scalar into
+-- a row, and for each register those of its list and of the fill, where free elements become ones.
+unfoldable pub cost_of : VInstr → Cfg → (each : Counts) → Counts
+cost_of i c each =
+    counts_and (cond (has_scalar i.form) (record { searches = 2; updates = 2; passes = 0 }) no_counts)
+    (counts_times (group_count c.vtype) (counts_and each (cond (is_ones c.policy) (record { searches = 1; updates = 1; passes = 0 }) no_counts)))
+
+-- the number of its operations, where the list of a register has so many
+unfoldable pub length_of : VInstr → Cfg → (long : ℕ) → ℕ
+length_of i c long = cond (has_scalar i.form) 4 0 + group_count c.vtype * (1 + cond (is_ones c.policy) 3 0 + long)
+
+-- the program of an instruction that can run on the slices
+pub record Measured (i : VInstr) (c : Cfg) (s : Slices) (each : Counts) (long : ℕ) (ops : List MicroOp) : Type 0 where
+  pub cost : tally ops ≡ cost_of i c each
+  pub count : length ops ≡ length_of i c long
+  pub range : AllInRange s.columns ops
+
+abbrev pub Costs : Class → (VInstr → Operands) → (value : (w a b : ℕ) → ℕ) → Type 0
+Costs class operands value =
+    (i : VInstr) (c : Cfg) (x : ℕ) (kind : Kind) (s : Slices) (each : Counts) (long : ℕ)
+    → Runs i c s → class_of i.op ≡ class → KindCosts kind each long
+    → Measured i c s each long (two_operand_program i c x (operands i) value kind)
+
+abbrev pub PlainCostLaw : Type 0
+PlainCostLaw = (value : (w a b : ℕ) → ℕ) → Costs plain plain_operands value
+
+abbrev pub MoveCostLaw : Type 0
+MoveCostLaw = Costs move move_operands (λ w a b. b)

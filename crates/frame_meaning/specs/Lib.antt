@@ -1,0 +1,4 @@
+-- Instructions and their configurations in the frame, and what they mean.
+pub mod Shapes
+pub mod Laws
+pub mod Costs

@@ -1,0 +1,2 @@
+-- What legality says of the registers of an instruction, class by class.
+pub mod Facts

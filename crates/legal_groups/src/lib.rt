@@ -1,0 +1,15 @@
+//! What legality says of the registers of a vector instruction, class by class. It holds no code
+//! that runs; each function here is a law.
+#![tactic(auto)]
+
+ghost use Rattle.legal_groups.specs.Facts.{PlainLaw, MoveLaw};
+
+/// The groups of a legal plain instruction are the same or apart, and the mask is spared.
+pub fn plain_law()
+    ensures law { PlainLaw }
+{}
+
+/// The same of a legal move.
+pub fn move_law()
+    ensures law { MoveLaw }
+{}

@@ -1,0 +1,2 @@
+-- The operations that mark the elements of a register.
+pub mod Operations

@@ -1,0 +1,356 @@
+ghost use Rattle.std.specs.Prelude.{◌≡◌, ℕ, ◌+◌, ◌*◌, ◌/◌, ◌<◌, ◌≤◌, ◌^◌, true, eqb};
+ghost use Rattle.std.specs.Int.{bit_at};
+ghost use Rattle.steer_net.specs.Network.{windowed, freed, numbered, bit_in, is_width, MaskReaches};
+ghost use Rattle.steer_net.specs.Rows.{mask_bit, is_one, partly, is_between};
+
+use bit_rows::Planes;
+
+// A chain has at most so many columns.
+const MAX_COLUMNS: usize = 2048;
+
+// Each column of a row has a bit in each subarray.
+const SUBARRAYS: u8 = 32;
+
+// The register that is the mask.
+const MASK: u8 = 0;
+
+/// Which elements of a row become ones: `on` and `off` say it of an element from `from` on and
+/// below `to`, where its bit of the mask is 1 and where it is 0, and `tail` says it of an element
+/// from `to` on.
+#[derive(Clone, Copy)]
+struct Ones {
+    from: u32,
+    to: u32,
+    on: bool,
+    off: bool,
+    tail: bool,
+}
+
+/// Writes into a row which elements of `width` bits lie from `from` on and below `to` and, where
+/// `masked`, have their bit of register 0 set. The first element of the row has the number `first`.
+pub fn window<P: Planes>(
+    p: &mut P,
+    row: u8,
+    width: u8,
+    first: u32,
+    from: u32,
+    to: u32,
+    masked: bool,
+)
+    requires row { row < 64 }
+    requires width { is_width width ≡ true }
+    requires mask { masked ≡ true → MaskReaches (P.slices p.old).columns width first from to }
+    ensures slices { P.slices p.new ≡ windowed row width first from to masked (P.slices p.old) }
+    ensures searches { P.searches p.new ≡ P.searches p.old }
+    ensures updates { P.updates p.new ≡ P.updates p.old }
+    ensures passes { P.passes p.new ≡ P.passes p.old }
+{
+    let ones = Ones {
+        from,
+        to,
+        on: true,
+        off: !masked,
+        tail: false,
+    };
+    write_ones(p, row, width, first, ones);
+}
+
+/// Writes into a row which elements of `width` bits are free: those of the tail, which is from `to`
+/// on, where `tail`, and those from `from` on and below `to` whose bit of register 0 is clear,
+/// where `masked` and `off`. The first element of the row has the number `first`.
+pub fn free<P: Planes>(
+    p: &mut P,
+    row: u8,
+    width: u8,
+    first: u32,
+    from: u32,
+    to: u32,
+    masked: bool,
+    tail: bool,
+    off: bool,
+)
+    requires row { row < 64 }
+    requires width { is_width width ≡ true }
+    requires mask { masked ≡ true → off ≡ true
+        → MaskReaches (P.slices p.old).columns width first from to }
+    ensures slices { P.slices p.new
+        ≡ freed row width first from to masked tail off (P.slices p.old) }
+    ensures searches { P.searches p.new ≡ P.searches p.old }
+    ensures updates { P.updates p.new ≡ P.updates p.old }
+    ensures passes { P.passes p.new ≡ P.passes p.old }
+{
+    let ones = Ones {
+        from,
+        to,
+        on: false,
+        off: masked && off,
+        tail,
+    };
+    write_ones(p, row, width, first, ones);
+}
+
+/// Writes the row by the mask as register 0 stands before, which is read only where it counts.
+fn write_ones<P: Planes>(p: &mut P, row: u8, width: u8, first: u32, ones: Ones)
+    requires row { row < 64 }
+    requires width { is_width width ≡ true }
+    requires mask { (ones.on ≡ ones.off → ⊥)
+        → MaskReaches (P.slices p.old).columns width first ones.from ones.to }
+    ensures slices { P.slices p.new
+        ≡ numbered row width first (is_one ones (bit_in (P.slices p.old) 0)) (P.slices p.old) }
+    ensures searches { P.searches p.new ≡ P.searches p.old }
+    ensures updates { P.updates p.new ≡ P.updates p.old }
+    ensures passes { P.passes p.new ≡ P.passes p.old }
+{
+    let mut mask = [0; MAX_COLUMNS];
+    if ones.on != ones.off {
+        read_mask(p, &mut mask);
+    }
+    write_row(p, row, width, first, ones, &mask);
+}
+
+/// Reads register 0 into words of its columns.
+fn read_mask<P: Planes>(p: &P, mask: &mut [u32; MAX_COLUMNS])
+    ensures { (e : ℕ) → e < 32 * (P.slices p.now).columns
+        → mask_bit mask.new e ≡ bit_in (P.slices p.now) 0 e }
+{
+    for col in 0..p.columns() {
+        mask[col as usize] = mask_word(p, col);
+    }
+}
+
+/// The word of a column of register 0: bit s of it is the bit in subarray s.
+fn mask_word<P: Planes>(p: &P, col: u32) -> u32
+    requires { col < (P.slices p.now).columns }
+    ensures { (s : ℕ) → s < 32 → eqb (bit_at result s) 1 ≡ (P.slices p.now).bit s 0 col }
+{
+    let mut word = 0u32;
+    for sub in 0..SUBARRAYS {
+        if p.bit(sub, MASK, col) {
+            word |= 1 << sub;
+        }
+    }
+    word
+}
+
+/// Writes the row by a mask.
+fn write_row<P: Planes>(
+    p: &mut P,
+    row: u8,
+    width: u8,
+    first: u32,
+    ones: Ones,
+    mask: &[u32; MAX_COLUMNS],
+)
+    requires row { row < 64 }
+    requires width { is_width width ≡ true }
+    ensures slices { P.slices p.new
+        ≡ numbered row width first (is_one ones (mask_bit mask.now)) (P.slices p.old) }
+    ensures searches { P.searches p.new ≡ P.searches p.old }
+    ensures updates { P.updates p.new ≡ P.updates p.old }
+    ensures passes { P.passes p.new ≡ P.passes p.old }
+{
+    let per_column = u32::from(SUBARRAYS / width);
+    for col in 0..p.columns() {
+        // The sum of two u32 may not fit one.
+        let number = u64::from(first) + u64::from(col * per_column);
+        write_column(p, row, width, col, number, ones, mask);
+    }
+}
+
+/// Writes one column of the row, whose first element has the number `number`.
+fn write_column<P: Planes>(
+    p: &mut P,
+    row: u8,
+    width: u8,
+    col: u32,
+    number: u64,
+    ones: Ones,
+    mask: &[u32; MAX_COLUMNS],
+)
+    requires row { row < 64 }
+    requires width { is_width width ≡ true }
+    requires column { col < (P.slices p.old).columns }
+    requires number { number < 2 ^ 63 }
+    ensures slices { P.slices p.new
+        ≡ partly (λ sub c. eqb c col) row (λ sub c. is_one ones (mask_bit mask.now) (number + sub / width)) (P.slices p.old) }
+    ensures searches { P.searches p.new ≡ P.searches p.old }
+    ensures updates { P.updates p.new ≡ P.updates p.old }
+    ensures passes { P.passes p.new ≡ P.passes p.old }
+{
+    for k in 0..SUBARRAYS / width {
+        let bit = ones.hold(mask, number + u64::from(k));
+        write_element(p, row, width, col, k * width, bit);
+    }
+}
+
+/// Writes a bit into an element: into `width` subarrays of a column, from the subarray `low` on.
+fn write_element<P: Planes>(p: &mut P, row: u8, width: u8, col: u32, low: u8, bit: bool)
+    requires row { row < 64 }
+    requires room { low + width ≤ 32 }
+    requires column { col < (P.slices p.old).columns }
+    ensures slices { P.slices p.new
+        ≡ partly (is_between col low (low + width)) row (λ sub c. bit) (P.slices p.old) }
+    ensures searches { P.searches p.new ≡ P.searches p.old }
+    ensures updates { P.updates p.new ≡ P.updates p.old }
+    ensures passes { P.passes p.new ≡ P.passes p.old }
+{
+    for sub in low..low + width {
+        p.set_bit(sub, row, col, bit);
+    }
+}
+
+impl Ones {
+    /// Whether the element of a number becomes ones.
+    fn hold(&self, mask: &[u32; MAX_COLUMNS], number: u64) -> bool
+        ensures { result ≡ is_one self.now (mask_bit mask.now) number }
+    {
+        if number >= u64::from(self.to) {
+            self.tail
+        } else if number < u64::from(self.from) {
+            false
+        } else if is_set(mask, number) {
+            self.on
+        } else {
+            self.off
+        }
+    }
+}
+
+/// A bit of the mask; the numbers past its end have none.
+fn is_set(mask: &[u32; MAX_COLUMNS], number: u64) -> bool
+    ensures { result ≡ mask_bit mask.now number }
+{
+    match mask.get((number / u64::from(SUBARRAYS)) as usize) {
+        Some(word) => (*word >> (number % u64::from(SUBARRAYS)) as u32) & 1 == 1,
+        None => false,
+    }
+}
+
+#[cfg(test)]
+mod tests {
+    use super::*;
+    use std::test::Fail;
+
+    const COLUMNS: u32 = 2;
+
+    const ROWS: usize = 64;
+
+    /// Two columns of bits, where a place goes by its column, then its row, then its subarray.
+    #[derive(Drop)]
+    struct Board {
+        bits: [bool; 4096],
+    }
+
+    /// Where a bit of a board lies.
+    fn place(sub: u8, row: u8, col: u32) -> usize
+        requires sub { sub < 32 }
+        requires row { row < 64 }
+        requires column { col < 2 }
+        ensures value { result ≡ 2048 * col + 32 * row + sub }
+        ensures inside { result < 4096 }
+    {
+        ROWS * usize::from(SUBARRAYS) * col as usize
+            + usize::from(SUBARRAYS) * usize::from(row)
+            + usize::from(sub)
+    }
+
+    impl Planes for Board {
+        ghost use Rattle.std.specs.Prelude.{Bool, false, cond, ◌&&◌, slice_index_or};
+        ghost use lib.Dec.{ltb};
+        ghost use Rattle.bit_rows.specs.Slices.{placed};
+
+        ghost slices = { λ b. record {
+          columns = 2;
+          bit = λ sub row col. cond (placed 2 sub col && ltb row 64) (slice_index_or b.bits (2048 * col + 32 * row + sub) false) false;
+          tag = λ sub col. false;
+          num = 0;
+        } };
+
+        ghost searches = { λ b. 0 };
+
+        ghost updates = { λ b. 0 };
+
+        ghost passes = { λ b. 0 };
+
+        fn columns(&self) -> u32 {
+            COLUMNS
+        }
+
+        fn bit(&self, sub: u8, row: u8, col: u32) -> bool {
+            self.bits[place(sub, row, col)]
+        }
+
+        fn set_bit(&mut self, sub: u8, row: u8, col: u32, bit: bool) {
+            self.bits[place(sub, row, col)] = bit;
+        }
+
+        fn tag(&self, _sub: u8, _col: u32) -> bool {
+            false
+        }
+    }
+
+    /// The two words of a row.
+    fn words(board: &Board, row: u8) -> [u32; 2]
+        requires { row < 64 }
+    {
+        let mut words = [0; 2];
+        for col in 0..COLUMNS {
+            for sub in 0..SUBARRAYS {
+                if board.bit(sub, row, col) {
+                    words[col as usize] |= 1 << sub;
+                }
+            }
+        }
+        words
+    }
+
+    /// A board whose register 0 has the bits 0, 2, 4, 5, 32 and 33.
+    fn masked_board() -> Board {
+        let mut board = Board {
+            bits: [false; 4096],
+        };
+        for (sub, col) in [(0, 0), (2, 0), (4, 0), (5, 0), (0, 1), (1, 1)] {
+            board.set_bit(sub, MASK, col, true);
+        }
+        board
+    }
+
+    #[test]
+    fn windows_of_each_width(rt: HostRuntime) {
+        let mut board = masked_board();
+        window(&mut board, 40, 32, 0, 1, 2, false);
+        assert_eq!(rt; words(&board, 40), [0, 0xffff_ffff]);
+        // The elements have the numbers 4 to 7.
+        window(&mut board, 40, 16, 4, 5, 7, false);
+        assert_eq!(rt; words(&board, 40), [0xffff_0000, 0x0000_ffff]);
+        window(&mut board, 40, 8, 0, 1, 6, true);
+        assert_eq!(rt; words(&board, 40), [0x00ff_0000, 0x0000_ffff]);
+        window(&mut board, 40, 1, 0, 3, 33, true);
+        assert_eq!(rt; words(&board, 40), [0x30, 1]);
+        assert_eq!(rt; words(&board, 0), [0x35, 3]);
+        assert_eq!(rt; words(&board, 41), [0, 0]);
+    }
+
+    #[test]
+    fn the_mask_is_read_before_it_is_written(rt: HostRuntime) {
+        let mut board = masked_board();
+        window(&mut board, MASK, 8, 0, 0, 8, true);
+        assert_eq!(rt; words(&board, MASK), [0x00ff_00ff, 0x0000_ffff]);
+    }
+
+    #[test]
+    fn free_elements(rt: HostRuntime) {
+        let mut board = masked_board();
+        for (tail, off, row) in [
+            (true, true, [0xff00_ff00, 0xffff_0000]),
+            (true, false, [0, 0xffff_0000]),
+            (false, true, [0xff00_ff00, 0]),
+            (false, false, [0, 0]),
+        ] {
+            free(&mut board, 52, 8, 0, 1, 6, true, tail, off);
+            assert_eq!(rt; words(&board, 52), row);
+        }
+        free(&mut board, 52, 32, 2, 0, 3, false, true, true);
+        assert_eq!(rt; words(&board, 52), [0, 0xffff_ffff]);
+    }
+}

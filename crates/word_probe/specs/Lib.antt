@@ -1,0 +1,2 @@
+-- What is told of words.
+pub mod Answers

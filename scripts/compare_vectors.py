@@ -1,0 +1,390 @@
+"""Makes random programs of vand, vor, vxor and vmv.v, and compares their last states with the executable model's.
+
+    compare_vectors.py compare CAPE MODEL FOLDER FIRST LAST [--counts]   compares the programs of the seeds
+    compare_vectors.py image SEED FILE                                   writes one program, and shows its options
+"""
+
+import collections
+import multiprocessing
+import os
+import random
+import subprocess
+import sys
+
+from guest import CODE, SETTINGS, image, load
+
+KINDS = {"vand": 9, "vor": 10, "vxor": 11, "vmv": 23}
+# The f3 of the forms with a register, a scalar register and an immediate.
+V, X, I = 0, 4, 3
+FORMS = [V, X, I]
+# The funct6 that no OPI word has, and the f3 of the forms on floating-point numbers, which do not exist here.
+NO_ROW = [8, 13, 20, 21, 22, 36, 38]
+FLOATING = [1, 5]
+VSETVLI, VSETIVLI, VSETVL = 0x00007057, 0xC0007057, 0x80007057
+E32_M1, E8_M8 = 0x10, 0x03
+# Vector types that are not supported: SEW 32 with LMUL 1/2, 1/4 and 1/8, SEW 16 with LMUL 1/4, SEW 64, the reserved
+# LMUL, and bits above the lowest eight, of which a register can name more.
+UNSUPPORTED = [0x17, 0x16, 0x15, 0x0E, 0x18, 0x04, 0x100, 0x400, 0x80000010]
+VSTART = 0x008
+MOST = 0xFFFFFFFF
+EXIT = 93
+ECALL = 0x00000073
+# The longest VLEN takes long: one program in WIDE_APART has it.
+WIDE = 65536
+WIDE_APART = 40
+NARROW = [32, 128, 1024]
+# Seconds after which a run has failed.
+LONGEST = 300
+# How many differing programs are told.
+TOLD = 10
+# The scalar registers that hold AVL, a vector type, a first element; operands, and before them the state of the fill;
+# new lengths.
+AVL, TYPE, FROM = 5, 6, 7
+SCALARS = [0, *range(11, 17)]
+DRAWN, FACTOR, ADDED, SHIFTED, ELEMENT = SCALARS[1:6]
+LENGTHS = [0, *range(18, 32)]
+
+
+def any_value(rng):
+    """A value of 32 bits, the corners preferred."""
+    corners = [0, 1, MOST, 0x80000000, 0x7FFFFFFF, 0x80, 0xFF, 0x8000, 0xFFFF, rng.getrandbits(8)]
+    return rng.choice(corners) if rng.random() < 0.3 else rng.getrandbits(32)
+
+
+def register_word(f7, rs2, rs1, f3, rd):
+    return f7 << 25 | rs2 << 20 | rs1 << 15 | f3 << 12 | rd << 7 | 0x33
+
+
+def immediate_word(value, rs1, f3, rd):
+    return (value & 0xFFF) << 20 | rs1 << 15 | f3 << 12 | rd << 7 | 0x13
+
+
+def branch_below(rs1, rs2, offset):
+    """bltu, with a negative offset of at least -4,096."""
+    high = 1 << 31 | (offset >> 5 & 0x3F) << 25 | (offset >> 11 & 1) << 7
+    return high | rs2 << 20 | rs1 << 15 | 6 << 12 | (offset >> 1 & 0xF) << 8 | 0x63
+
+
+def set_first(register):
+    """csrrw x0, vstart, register"""
+    return VSTART << 20 | register << 15 | 1 << 12 | 0x73
+
+
+def vector_word(funct6, unmasked, vs2, vs1, f3, vd):
+    return funct6 << 26 | unmasked << 25 | vs2 << 20 | vs1 << 15 | f3 << 12 | vd << 7 | 0x57
+
+
+def lmul(vtype):
+    """LMUL in quarters."""
+    return 1 << ((vtype & 7) + 2) % 8
+
+
+def sew(vtype):
+    return 8 << (vtype >> 3 & 7)
+
+
+class Program:
+    """The words of a program, its options, and how it ends: the status and the front of the report."""
+
+    def __init__(self, seed):
+        self.rng = rng = random.Random(seed)
+        self.vlen = WIDE if seed % WIDE_APART == 0 else rng.choice(NARROW)
+        self.words = []
+        self.vtype = None
+        self.vl = 0
+        self.options = self.any_options()
+        self.fill()
+        for register in SCALARS[1:]:
+            self.words += load(register, any_value(rng))
+        for number in range(rng.randrange(4, 9)):
+            self.round(fresh=number == 0)
+        illegal = self.illegal() if rng.random() < 0.1 else None
+        code = rng.getrandbits(32)
+        if illegal is None:
+            self.end = code & 0xFF, f"cape: exited {code & 0xFF} after "
+        else:
+            pc = CODE + 4 * len(self.words)
+            self.end = 121, f"cape: trap 2 at {pc:08x} value {illegal:08x} after "
+            self.words.append(illegal)
+        self.words += load(10, code) + load(17, EXIT) + [ECALL]
+
+    def any_options(self):
+        """The options of the run, in any order; what is the default may be left out."""
+        rng = self.rng
+        policy = rng.choice(["keep", "ones"])
+        options = [["--state"]]
+        if self.vlen != 1024 or rng.random() < 0.5:
+            options.append(["--vlen", str(self.vlen)])
+        if policy != "keep" or rng.random() < 0.5:
+            options.append(["--agnostic", policy])
+        rng.shuffle(options)
+        return [word for option in options for word in option]
+
+    def fill(self):
+        """A loop that puts drawn words into every register: from an element on, then from one behind it, and so on."""
+        rng = self.rng
+        elements = self.vlen // 32
+        apart = rng.randint(elements // 24 or 1, elements // 8 or 1)
+        self.words += load(DRAWN, rng.getrandbits(32)) + load(FACTOR, rng.getrandbits(32) & ~7 | 5)
+        self.words += load(ADDED, rng.getrandbits(32) | 1) + load(ELEMENT, 0)
+        self.request(LENGTHS[1], 0, E32_M1)
+        self.vtype, self.vl = E32_M1, elements
+        again = len(self.words)
+        for register in range(32):
+            self.words += [
+                register_word(1, FACTOR, DRAWN, 0, DRAWN),
+                register_word(0, ADDED, DRAWN, 0, DRAWN),
+                immediate_word(16, DRAWN, 5, SHIFTED),
+                register_word(0, DRAWN, SHIFTED, 4, SHIFTED),
+                set_first(ELEMENT),
+                vector_word(KINDS["vmv"], 1, 0, SHIFTED, X, register),
+            ]
+        self.words.append(immediate_word(apart, ELEMENT, 0, ELEMENT))
+        self.words.append(branch_below(ELEMENT, LENGTHS[1], 4 * (again - len(self.words))))
+
+    def vlmax(self, vtype):
+        return lmul(vtype) * self.vlen // (4 * sew(vtype))
+
+    def keeps_vlmax(self, vtype):
+        return self.vtype is not None and self.vlmax(vtype) == self.vlmax(self.vtype)
+
+    def border(self, vtype):
+        """The number of an element near the first of a register."""
+        return max(0, self.rng.randrange(9) * self.vlen // sew(vtype) + self.rng.randint(-1, 1))
+
+    def any_type(self):
+        return self.rng.choice(SETTINGS) | self.rng.getrandbits(2) << 6
+
+    def any_length(self, vtype):
+        """A vector length, from 0 to the greatest, the corners preferred."""
+        most = self.vlmax(vtype)
+        corners = [0, 0, 1, most - 1, most, most, most, most, self.border(vtype), self.border(vtype)]
+        return min(self.rng.choice(corners), most) if self.rng.random() < 0.6 else self.rng.randint(0, most)
+
+    def request(self, rd, rs1, vtype):
+        """vsetvli, or vsetvl where the vector type is long, and sometimes where it is not."""
+        if vtype < 1 << 11 and self.rng.random() < 0.7:
+            self.words.append(VSETVLI | vtype << 20 | rs1 << 15 | rd << 7)
+        else:
+            self.words += load(TYPE, vtype) + [VSETVL | TYPE << 20 | rs1 << 15 | rd << 7]
+
+    def configure(self, vtype, length):
+        """Sets a vector type and a length by one of the forms that do it."""
+        rng = self.rng
+        most = self.vlmax(vtype)
+        rd = rng.choice(LENGTHS)
+        forms = ["register"] + ["greatest"] * (length == most) + ["immediate"] * (length < 32)
+        forms += ["kept"] * (3 * (length == self.vl and self.keeps_vlmax(vtype)))
+        form = rng.choice(forms)
+        # A number of elements above the greatest length gives the greatest.
+        above = 31 if form == "immediate" else MOST
+        avl = rng.randint(most, above) if length == most and rng.random() < 0.5 else length
+        if form == "register":
+            self.words += load(AVL, avl)
+            self.request(rd, AVL, vtype)
+        elif form == "greatest":
+            self.request(rd or LENGTHS[1], 0, vtype)
+        elif form == "kept":
+            self.request(0, 0, vtype)
+        else:
+            self.words.append(VSETIVLI | vtype << 20 | avl << 15 | rd << 7)
+        self.vtype, self.vl = vtype, length
+
+    def refuse(self):
+        """Asks for a vector type that is not supported, or to keep the length under one with another greatest length."""
+        rng = self.rng
+        others = [vtype for vtype in SETTINGS if self.vtype is not None and not self.keeps_vlmax(vtype)]
+        if others and rng.random() < 0.2:
+            self.request(0, 0, rng.choice(others))
+        else:
+            self.request(rng.choice(LENGTHS), rng.choice(SCALARS), rng.choice(UNSUPPORTED))
+        self.vtype, self.vl = None, 0
+
+    def start(self):
+        """Sets the first element of the next instruction: below the length, at it, or behind it."""
+        rng = self.rng
+        most = self.vlmax(self.vtype)
+        corners = [self.vl - 1, self.vl, self.vl, self.vl + 1, most - 1, self.vlen - 1, self.border(self.vtype)]
+        first = rng.choice(corners) if rng.random() < 0.4 else rng.randrange(max(1, self.vl))
+        self.words += load(FROM, min(max(first, 0), self.vlen - 1)) + [set_first(FROM)]
+
+    def group(self):
+        """The first register of a group under the present setting, v0 preferred."""
+        apart = max(4, lmul(self.vtype)) // 4
+        return 0 if self.rng.random() < 0.15 else self.rng.randrange(0, 32, apart)
+
+    def operands(self):
+        """vd, vs2 and what stands for vs1: often equal."""
+        rng = self.rng
+        vs2 = self.group()
+        vs1 = vs2 if rng.random() < 0.2 else self.group()
+        vd = rng.choice([vs2, vs2, vs1] + [self.group()] * 7)
+        return vd, vs2, vs1
+
+    def any_word(self):
+        """A legal word of one of the kinds under the present setting."""
+        rng = self.rng
+        vd, vs2, vs1 = self.operands()
+        kind = rng.choice(list(KINDS))
+        form = rng.choice([V, *FORMS])
+        unmasked = int(kind == "vmv" or rng.random() < 0.4)
+        if not unmasked:
+            while vd == 0:
+                vd = self.group()
+        if kind == "vmv":
+            vs2 = 0
+        if form != V:
+            vs1 = rng.choice(SCALARS) if form == X else rng.getrandbits(5)
+        return vector_word(KINDS[kind], unmasked, vs2, vs1, form, vd)
+
+    def mask(self):
+        """Puts a mask into v0: none, all, or a drawn word again and again."""
+        self.configure(E32_M1, self.vlen // 32)
+        drawn = self.rng.getrandbits(32)
+        self.words += load(FROM, self.rng.choice([0, MOST, drawn, drawn]))
+        self.words.append(vector_word(KINDS["vmv"], 1, 0, FROM, X, 0))
+
+    def round(self, fresh):
+        """Perhaps a mask, a setting and a first element, and one word of the kinds."""
+        rng = self.rng
+        if not fresh and rng.random() < 0.12:
+            self.mask()
+        if rng.random() < 0.04:
+            self.refuse()
+        if fresh or self.vtype is None or rng.random() < 0.7:
+            vtype = self.any_type()
+            kept = self.keeps_vlmax(vtype) and rng.random() < 0.4
+            self.configure(vtype, self.vl if kept else self.any_length(vtype))
+        if rng.random() < 0.5:
+            self.start()
+        self.words.append(self.any_word())
+
+    def illegal(self):
+        """An illegal word, with what makes it illegal before it."""
+        rng = self.rng
+        vtype = self.any_type()
+        kinds = [self.masks_itself, self.no_type, self.two_sources, self.no_row, self.merges_mask]
+        if lmul(vtype) > 4:
+            kinds += [self.misaligned] * 2
+        self.configure(vtype, self.any_length(vtype))
+        if rng.random() < 0.5:
+            self.start()
+        return rng.choice(kinds)()
+
+    def misaligned(self):
+        """One of the registers is not the first of a group."""
+        rng = self.rng
+        kind = rng.choice(list(KINDS))
+        registers = list(self.operands())
+        at = rng.choice([0, 2]) if kind == "vmv" else rng.randrange(3)
+        registers[at] += rng.randrange(1, lmul(self.vtype) // 4)
+        vd, vs2, vs1 = registers
+        if kind == "vmv":
+            return vector_word(KINDS[kind], 1, 0, vs1, V, vd)
+        return vector_word(KINDS[kind], rng.getrandbits(1), vs2, vs1, V, vd)
+
+    def masks_itself(self):
+        """A masked word whose destination is the mask."""
+        rng = self.rng
+        kind = rng.choice(["vand", "vor", "vxor"])
+        return vector_word(KINDS[kind], 0, self.group(), self.group(), rng.choice(FORMS), 0)
+
+    def no_type(self):
+        """A word that is legal under every vector type, and no vector type."""
+        self.refuse()
+        if self.rng.random() < 0.5:
+            self.words += load(FROM, self.rng.randrange(self.vlen)) + [set_first(FROM)]
+        self.vtype = E8_M8
+        return self.any_word()
+
+    def two_sources(self):
+        """A move that names a second source."""
+        vd, _, vs1 = self.operands()
+        return vector_word(KINDS["vmv"], 1, self.rng.randrange(1, 32), vs1, self.rng.choice(FORMS), vd)
+
+    def no_row(self):
+        """A word near the kinds that no instruction has."""
+        rng = self.rng
+        vd, vs2, vs1 = self.operands()
+        near = [(rng.choice(NO_ROW), rng.choice(FORMS)), (rng.choice(list(KINDS.values())), rng.choice(FLOATING))]
+        funct6, form = rng.choice(near)
+        return vector_word(funct6, rng.getrandbits(1), vs2, vs1, form, vd)
+
+    def merges_mask(self):
+        """A move with a mask is a merge, which reads the mask and must not write it."""
+        return vector_word(KINDS["vmv"], 0, self.group(), self.group(), self.rng.choice(FORMS), 0)
+
+
+def told_by(program, path, options, environment):
+    """Status, output and error output of a run, as lines; none where the run takes too long."""
+    command = [program, "run", path, *options]
+    try:
+        run = subprocess.run(command, stdin=subprocess.DEVNULL, capture_output=True, env=environment, timeout=LONGEST)
+    except subprocess.TimeoutExpired:
+        return ["status none"]
+    return [f"status {run.returncode}", *run.stdout.decode().split("\n"), *run.stderr.decode().split("\n")]
+
+
+def shown(line, at):
+    """A line, or where it is long its name and what stands from a character on."""
+    return line if len(line) < 80 else f"{line.split()[0]} from character {at} on {line[at:at + 16]}"
+
+
+def first_difference(ours, theirs):
+    for our, their in zip(ours, theirs):
+        if our != their:
+            at = len(os.path.commonprefix([our, their]))
+            return f"{shown(our, at)}, and the model: {shown(their, at)}"
+    return f"{len(ours)} lines, and the model: {len(theirs)}"
+
+
+def compared(job):
+    """How the model ended the program of a seed, and in what the states differ, if they do."""
+    cape, model, folder, seed, counted = job
+    program = Program(seed)
+    path = os.path.join(folder, f"image{os.getpid()}")
+    with open(path, "wb") as file:
+        file.write(image(program.words))
+    # The level of the model's grammar that has the option; without counts it need not carry out the operations.
+    environment = {"CAPE_REF_LEVEL": "13"} if counted else {"CAPE_REF_LEVEL": "4", "CAPE_REF_FAST": "1"}
+    options = program.options + (["--counts"] if counted else [])
+    theirs = told_by(model, path, options, environment)
+    ours = told_by(cape, path, options, {})
+    status, report = program.end
+    planned = theirs[0] == f"status {status}" and any(line.startswith(report) for line in theirs)
+    end = "trapped" if planned and status == 121 and "trap" in report else "exited" if planned else "ended otherwise"
+    difference = None if ours == theirs else first_difference(ours, theirs)
+    return seed, end, " ".join(options), difference
+
+
+def compare(cape, model, folder, first, last, counted):
+    ends = collections.Counter()
+    different = []
+    unplanned = []
+    with multiprocessing.Pool(2) as pool:
+        jobs = ((cape, model, folder, seed, counted) for seed in range(first, last + 1))
+        for seed, end, options, difference in pool.imap(compared, jobs):
+            ends[end] += 1
+            if difference is not None:
+                different.append(f"differs: seed {seed} with {options}: {difference}")
+            if end == "ended otherwise":
+                unplanned.append(f"the model ends the program of seed {seed} otherwise than it was made to end")
+    for line in different[:TOLD] + unplanned[:TOLD]:
+        print(line)
+    same = sum(ends.values()) - len(different)
+    print(f"{same} the same, {len(different)} different; {ends['exited']} exited, {ends['trapped']} trapped")
+    sys.exit(1 if different or unplanned else 0)
+
+
+def write_image(seed, path):
+    program = Program(seed)
+    with open(path, "wb") as file:
+        file.write(image(program.words))
+    print(" ".join(program.options))
+
+
+if __name__ == "__main__":
+    if sys.argv[1] == "image":
+        write_image(int(sys.argv[2]), sys.argv[3])
+    else:
+        compare(*sys.argv[2:5], int(sys.argv[5]), int(sys.argv[6]), "--counts" in sys.argv[7:])

@@ -1,0 +1,21 @@
+#!/usr/bin/env bash
+# Compares the last states of `cape run --state` with the executable model on random programs of vand, vor, vxor and
+# vmv.v: all forms, settings, masks, policies and first elements, legal or not, at VLEN 32, 128, 1,024 and, one in forty,
+# 65,536. The programs are told by their seeds. Skips where the model is missing.
+#   scripts/compare_vectors.sh [--counts] [CAPE] [FIRST] [LAST]
+#     --counts     compares the counts as well
+#     CAPE         the built program, crates/cape/out/cape by default
+#     FIRST, LAST  the seeds, 1 to 2,000 by default
+# The program of one seed is written, and its options are shown, by: python3 -B scripts/compare_vectors.py image SEED FILE
+source "$(dirname "$0")/common.sh"
+counts=
+if [ "${1:-}" = --counts ]; then
+    counts=--counts
+    shift
+fi
+cape=${1:-$top/crates/cape/out/cape}
+first=${2:-1}
+last=${3:-2000}
+need_beside "$model"
+need_built "$cape" cape
+python3 -B "$top/scripts/compare_vectors.py" compare "$cape" "$model" "$work" "$first" "$last" $counts
