@@ -633,7 +633,7 @@ impl Machine {
         ensures answer { IfOk result (λ answer. answer ≡ answer_of self.new.core.mode) }
 
         // Agnostic elements are as the standard permits, whatever the policy is.
-        ensures allowed { OnOk result ((taken : List ℕ) × Allowed self.old.core taken self.new.core) }
+        ensures allowed { OnOk result ((taken : List ℕ) × Takes (asked self.old.core) (S.left input.old) (S.left input.new) taken × Allowed self.old.core taken self.new.core) }
 
         // The moment after is that of one step from the moment before.
         ensures goes { OnOk result (GoesBy moment_after merged self.old self.new (S.left input.old) (S.left input.new) (O.held out.old) (O.held out.new) (E.held err.old) (E.held err.new)) }

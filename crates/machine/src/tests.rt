@@ -52,6 +52,7 @@ struct Ran {
 }
 
 // The input fails at its first take, and both sinks at the puts that are listed. There is no answer where one did.
+#[tactic(auto, unfolding(vtype_cfg::specs::Settings::is_legal_vlen, vtype_cfg::specs::Settings::legal_vlens))]
 fn run_of(
     alloc: Global,
     words: &[u32; 6],

@@ -1,12 +1,10 @@
 -- The lists of the kinds realise their values, and what they cost.
-use Rattle.std.proofs.Common.{◌≡◌, ◌≢◌, ◌⊎◌, ℕ, ◌+◌, ◌<◌, ◌≤◌, Bool, true, false, List, [], ◌∷◌, inl, inr, refl, ⊎_elim, arith}
+use Rattle.std.proofs.Common.{◌≡◌, ◌≢◌, ◌⊎◌, ℕ, ◌<◌, ◌≤◌, true, false, [], ◌∷◌, inl, inr, refl, ⊎_elim, arith}
 use Rattle.std.specs.Prelude.{is_some}
-use Rattle.element_ops.specs.Values.{vand, vor, vxor, vmv}
 use Rattle.frame_classes.specs.Operands.{IsOperandRow}
 use Rattle.frame_classes.specs.Plain.{IsKind}
 use Rattle.frame_meaning.specs.Costs.{KindCosts}
 use Rattle.frame_meaning.specs.Shapes.{of_two}
-use Rattle.gen_logic.specs.Laws.{Measured}
 use Rattle.gen_logic.proofs.Tables.{table-numbers, table-measured}
 use Rattle.gen_logic.proofs.Logic.{and-table, and-bits, or-table, or-bits, xor-table, xor-bits, move-numbers, move-measured}
 use Rattle.rvv_decode.specs.declared.instruction.OpiOp.{OpiOp}

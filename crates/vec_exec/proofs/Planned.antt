@@ -1,20 +1,19 @@
 -- What a plan writes is the program in the frame; what legality says of its rows; and what the program does and costs.
-use Rattle.std.proofs.Common.{◌≡◌, ◌≢◌, ◌⊎◌, inl, inr, ℕ, zero, suc, ◌+◌, ◌*◌, ◌/◌, ◌<◌, ◌≤◌, Bool, true, false, cond, ◌&&◌, ◌||◌, eqb, ltb, List, [], ◌∷◌, ◌++◌, length, Some, refl, sym, ◌∙◌, ap, subst, ⊎_elim, arith, append_assoc}
+use Rattle.std.proofs.Common.{◌≡◌, inl, inr, ℕ, zero, suc, ◌+◌, ◌*◌, ◌/◌, ◌<◌, ◌≤◌, Bool, true, false, cond, eqb, List, [], ◌∷◌, ◌++◌, length, Some, refl, sym, ◌∙◌, ap, subst, arith}
 use Rattle.std.specs.Prelude.{IsTrue, is_some}
-use Rattle.std.proofs.lemmas.Bool.{and_parts, ne_eqb}
+use Rattle.std.proofs.lemmas.Bool.{and_parts}
 use Rattle.bit_rows.specs.Slices.{Slices, blank}
 use Rattle.cam_chain.specs.Views.{registers_of}
 use Rattle.cam_chain.specs.declared.counts.Counts.{Counts}
 use Rattle.micro_ir.specs.declared.op.MicroOp.{MicroOp}
 use Rattle.micro_ir.specs.declared.op.MicroOp.TheVariants.{Search, Update, Pass, Window, Free}
-use Rattle.micro_ir.specs.Replay.{replay, tally, AllInRange, IsInRange, counts_and, counts_in}
+use Rattle.micro_ir.specs.Replay.{tally, AllInRange, IsInRange, counts_in}
 use Rattle.rvv_decode.specs.declared.instruction.Form.{Form}
 use Rattle.rvv_decode.specs.declared.instruction.Form.TheVariants.{V, X, I}
 use Rattle.rvv_decode.specs.declared.instruction.OpiOp.{OpiOp}
 use Rattle.rvv_decode.specs.declared.instruction.OpiOp.TheVariants.{Vand, Vor, Vxor, VmvV}
 use Rattle.rvv_decode.specs.declared.instruction.VInstr.{VInstr}
 use Rattle.rvv_decode.specs.declared.instruction.VOp.TheVariants.{Opi}
-use Rattle.rvv_decode.specs.Ranges.{IsInRange as InRange}
 use Rattle.vtype_cfg.specs.declared.configuration.Cfg.{Cfg}
 use Rattle.vtype_cfg.specs.Settings.{is_legal_vlen, is_vill_or_supported, is_valid}
 use Rattle.vtype_cfg.specs.Classes.{class_of, opi_class, plain, move}
@@ -27,14 +26,14 @@ use Rattle.rvv_meaning.specs.Elementwise.{registers_after}
 use Rattle.rvv_meaning.specs.Vectors.{vectors_after, operation_of}
 use Rattle.element_ops.specs.Values.{vand, vor, vxor, vmv}
 use Rattle.std.specs.Option.{option_map_or}
-use Rattle.frame_classes.specs.Operands.{Operand, group, scalar, row_of}
+use Rattle.frame_classes.specs.Operands.{group, row_of}
 use Rattle.frame_laws.specs.Programs.{program, first_registers, one_register}
 use Rattle.frame_meaning.specs.Shapes.{operand_in, two_operand_shape, two_operand_program}
 use Rattle.frame_meaning.specs.Laws.{Runs}
-use Rattle.frame_meaning.specs.Costs.{Measured, cost_of, length_of}
+use Rattle.frame_meaning.specs.Costs.{Measured, cost_of}
 use Rattle.frame_meaning.proofs.Instructions.{plain_meaning_law, move_meaning_law, plain_cost_law, move_cost_law}
-use Rattle.vec_exec.specs.Kinds.{kind_of, operands_of, value_in, each_of, long_of}
-use Rattle.vec_exec.specs.Programs.{shape, bounds, body, program_in, prog, cost, Realises, register_list, registers_list, scalar_list, fill_list, IsElementWidth, IsPlaced}
+use Rattle.vec_exec.specs.Kinds.{kind_of, operands_of, each_of, long_of}
+use Rattle.vec_exec.specs.Programs.{shape, bounds, body, program_in, prog, cost, Realises, register_list, registers_list, scalar_list, IsElementWidth, IsPlaced}
 use Rattle.vec_exec.proofs.GoodKinds.{good, long-few}
 
 -- ---- the program as it is written

@@ -1,12 +1,12 @@
 -- The operations of the pieces, written out. They are the same at every width of elements.
-use Rattle.std.proofs.Common.{◌≡◌, ◌⊎◌, inl, inr, ℕ, ◌+◌, ◌-◌, ◌<◌, ◌≤◌, Bool, true, false, cond, ◌&&◌, ◌||◌, eqb, ltb, leb, List, [], ◌∷◌, ◌++◌, map, refl, sym, subst, arith}
+use Rattle.std.proofs.Common.{◌≡◌, ◌⊎◌, inl, inr, ℕ, ◌-◌, Bool, true, false, cond, ◌&&◌, ◌||◌, eqb, ltb, leb, List, [], ◌∷◌, ◌++◌, map, refl, sym, subst, arith}
 use Rattle.std.proofs.lemmas.Bool.{le-leb}
 use Rattle.bit_laws.specs.Numbers.{bit_of}
 use Rattle.micro_ir.specs.declared.op.MicroOp.{MicroOp}
 use Rattle.micro_ir.specs.declared.op.MicroOp.TheVariants.{Search, Update}
-use Rattle.micro_ir.specs.Subs.{subs_of, subs_below}
+use Rattle.micro_ir.specs.Subs.{subs_of}
 use Rattle.micro_ir.proofs.Subs.{sets-same}
-use Rattle.micro_ir.specs.Steps.{Step, micro, micros}
+use Rattle.micro_ir.specs.Steps.{micro, micros}
 use Rattle.frame_laws.specs.WorkRows.{result_row}
 use Rattle.frame_laws.specs.Pieces.{everywhere, clear, commit, fill_step, splat}
 use Rattle.gen_logic.specs.Recipes.{table_steps, of_rows, has, once, move_steps, and_on, or_on, xor_on}

@@ -1,5 +1,5 @@
 -- The kinds of operations on elements that are built: their lists, and what these cost.
-use Rattle.std.specs.Prelude.{ℕ, List, []}
+use Rattle.std.specs.Prelude.{ℕ, []}
 use Rattle.std.specs.Option.{unwrap_or}
 use Rattle.cam_chain.specs.ChainValue.{no_counts}
 use Rattle.cam_chain.specs.declared.counts.Counts.{Counts}

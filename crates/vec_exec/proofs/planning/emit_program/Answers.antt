@@ -1,4 +1,4 @@
-use Rattle.std.proofs.Common.{◌≡◌, ◌∙◌, ◌++◌, [], length, refl, sym, ap, arith}
+use Rattle.std.proofs.Common.{◌≡◌, ◌∙◌, refl, arith}
 use Rattle.vtype_cfg.proofs.Supported.{vlen_bounded}
 use Rattle.frame_meaning.specs.Costs.{length_of}
 use Rattle.vec_exec.specs.Programs.{program_in}

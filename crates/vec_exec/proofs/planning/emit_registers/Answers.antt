@@ -1,10 +1,8 @@
-use Rattle.std.proofs.Common.{◌≡◌, ◌≤◌, ◌<◌, ◌+◌, ◌*◌, ◌++◌, ℕ, Bool, cond, true, false, refl, ◌∙◌, append-nil, append_assoc, arith}
+use Rattle.std.proofs.Common.{◌≤◌, ◌<◌, ◌+◌, cond, refl, ◌∙◌, append-nil, append_assoc, arith}
 use Rattle.std.proofs.lemmas.Nat.{mul-le}
 use Rattle.rvv_meaning.specs.Elementwise.{is_ones}
 use Rattle.legal_groups.specs.Facts.{group_count}
 use Rattle.vec_exec.specs.Kinds.{long_of}
-use Rattle.vec_exec.specs.Programs.{registers_list}
-use Rattle.vec_exec.proofs.GoodKinds.{long-few}
 use Rattle.vec_exec.proofs.Planned.{registers-more, registers-none, register-few}
 use Rattle.vec_exec.proofs.planning.emit_registers.Goals as goal
 

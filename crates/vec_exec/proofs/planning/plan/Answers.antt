@@ -1,6 +1,4 @@
-use Rattle.std.proofs.Common.{◌≡◌, ◌∙◌, ◌≤◌, ◌+◌, ◌*◌, ◌/◌, length, refl, sym, ap, arith}
-use Rattle.micro_ir.specs.Replay.{tally}
-use Rattle.vec_exec.specs.Programs.{program_in}
+use Rattle.std.proofs.Common.{◌/◌, arith}
 use Rattle.vec_exec.proofs.Planned.{prog-is, cost-is, realised, measured, tally-few}
 use Rattle.vec_exec.proofs.planning.plan.Goals as goal
 

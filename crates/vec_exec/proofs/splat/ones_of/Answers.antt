@@ -1,4 +1,4 @@
-use Rattle.std.proofs.Common.{◌≡◌, ℕ, ◌≤◌, ◌<◌, ◌&&◌, arith, rules}
+use Rattle.std.proofs.Common.{◌≡◌, ◌&&◌, arith, rules}
 use lib.Dec.{ltb}
 use Rattle.bit_laws.specs.Numbers.{bit_of}
 use Rattle.micro_ir.specs.Subs.{subs_of}

@@ -21,4 +21,4 @@ returns-in-Err-clause-fronts g c =
 pub returns-in-Ok-clause-allowed : goal.returns-in-Ok-clause-allowed
 returns-in-Ok-clause-allowed g c =
     let w = rw c.forget.ensures at c.in-Ok.ensures.carries in
-    (w.0, rw w.1.core (step-allowed c.args.self.now.core w.0))
+    (w.0, w.1.took, rw w.1.core (step-allowed c.args.self.now.core w.0))

@@ -1,0 +1,181 @@
+-- The lists that choose one of two rows realise it.
+use Rattle.std.proofs.Common.{◌≡◌, ◌≢◌, ℕ, ◌+◌, ◌-◌, ◌<◌, ◌≤◌, Bool, true, false, cond, not, ltb, List, [], ◌∷◌, ◌++◌, zero, suc, refl, sym, ◌∙◌, ap, arith, ⊎_elim}
+use Rattle.std.proofs.lemmas.Bool.{cases_lt}
+use Rattle.bit_laws.specs.Numbers.{number, low}
+use Rattle.bit_laws.proofs.Numbers.{number-lt, number-same}
+use Rattle.micro_ir.specs.Steps.{Step, fires, step_on, steps_on, AllFit}
+use Rattle.micro_ir.proofs.StepLists.{steps_on-append, AllFit-append}
+use Rattle.frame_laws.specs.WorkRows.{result_row}
+use Rattle.frame_laws.specs.Pieces.{everywhere, clear, commit}
+use Rattle.frame_laws.specs.Kinds.{Writes}
+use Rattle.frame_laws.proofs.OneElement.{hit, fires-hit, step-row, clear-here, everywhere-here, everywhere-fits, commit-fits}
+use Rattle.gen_arith.specs.Recipes.{carry_row, truth_row, below, operands, values_of, Compare, truth_steps, downs, first_on, second_on, choice_steps, ltu, lt}
+use Rattle.gen_arith.specs.Truths.{biased}
+use Rattle.gen_arith.specs.Laws.{Apart, ChoiceNumbers}
+use Rattle.gen_arith.proofs.Ripple.{or_no, below-here, below-else, below-fits}
+use Rattle.gen_arith.proofs.Rows.{finds, Folds, folds, found}
+use Rattle.gen_arith.proofs.Numbers.{low-top}
+use Rattle.gen_arith.proofs.Sums.{commit-writes, lifted, mask_in, most_not-folds}
+use Rattle.gen_arith.proofs.Truths.{truth_of, told, truth-fits, ltu-is, lt-is, borrow-folds}
+
+-- ---- a bit into those below it
+
+-- the places from the bit on stay
+downs-above : (row n : ℕ) (e : ℕ → ℕ → Bool) (r j : ℕ) → n ≤ j → steps_on (downs row n) e r j ≡ e r j
+unfolding steps_on downs
+downs-above row zero e r j high = refl
+downs-above row (suc n) e r j high =
+    let one = below (row ∷ []) (1 ∷ []) row (suc n) 1 in
+    downs-above row n (step_on one e) r j (omega arith) ∙ below-else (row ∷ []) (1 ∷ []) row (suc n) 1 e r j (omega arith)
+
+downs-row : (row n : ℕ) (e : ℕ → ℕ → Bool) (r j : ℕ) → r ≢ row → steps_on (downs row n) e r j ≡ e r j
+unfolding steps_on downs
+downs-row row zero e r j other = refl
+downs-row row (suc n) e r j other =
+    let one = below (row ∷ []) (1 ∷ []) row (suc n) 1 in
+    downs-row row n (step_on one e) r j other ∙ step-row one e r j other
+
+-- from clear places below it
+pub downs-here : (row n : ℕ) (e : ℕ → ℕ → Bool) → ((j : ℕ) → j < n → e row j ≡ false) → (j : ℕ) → j ≤ n → steps_on (downs row n) e row j ≡ e row n
+unfolding steps_on downs
+downs-here row zero e clear j low = let z : j ≡ 0 = omega arith in rw z refl
+downs-here row (suc n) e clear j low =
+    let one = below (row ∷ []) (1 ∷ []) row (suc n) 1 in
+    let e1 = step_on one e in
+    let z : suc n ≡ n + 1 = omega arith in
+    let next : e1 row n ≡ e row (suc n) =
+    ap (λ (k : ℕ). step_on (below (row ∷ []) (1 ∷ []) row k 1) e row n) z
+    ∙ below-here (row ∷ []) (1 ∷ []) row n 1 e
+    ∙ rw (clear n (omega arith), fires-hit (row ∷ []) (1 ∷ []) (λ r. e r (n + 1))) (or_no (hit (1 ∷ []) (e row (n + 1) ∷ [])) ∙ mask_in (e row (n + 1)) ∙ ap (e row) (sym z)) in
+    let still : (i : ℕ) → i < n → e1 row i ≡ false = λ i l. below-else (row ∷ []) (1 ∷ []) row (suc n) 1 e row i (omega arith) ∙ clear i (omega arith) in
+    ⊎_elim
+    (λ (l : j < suc n). downs-here row n e1 still j (omega arith) ∙ next)
+    (λ (l : suc n ≤ j). let q : j ≡ suc n = omega arith in
+    downs-above row n e1 row j (omega arith) ∙ below-else (row ∷ []) (1 ∷ []) row (suc n) 1 e row j (omega arith) ∙ ap (e row) q)
+    (cases_lt j (suc n))
+
+downs-fit : (w row n : ℕ) → n < w → AllFit w (downs row n)
+unfolding downs
+downs-fit w row zero inside = tt
+downs-fit w row (suc n) inside = (below-fits w (row ∷ []) (1 ∷ []) row (suc n) 1 (omega arith) inside, downs-fit w row n (omega arith))
+
+-- ---- the choice
+
+-- The table finds one of the operands' bits, as the truth says.
+abbrev Picks : (on : List ℕ) (picks : Bool → Bool) → Type 0
+Picks on picks = (c x y : Bool) → finds on c x y ≡ cond (picks c) x y
+
+as_found : (b : Bool) → cond b true false ≡ b
+as_found true = refl
+as_found false = refl
+
+-- the number of the bits that are picked
+picked : (w : ℕ) (p : Bool) (x y : ℕ → Bool) → number w (λ j. cond p (x j) (y j)) ≡ cond p (number w x) (number w y)
+picked w true x y = refl
+picked w false x y = refl
+
+low-picked : (w : ℕ) (p : Bool) (x y : ℕ → Bool) → cond p (number w x) (number w y) ≡ low w (cond p (number w x) (number w y))
+low-picked w true x y = low-top w (number w x) (number w x) false (number-lt w x) (omega arith)
+low-picked w false x y = low-top w (number w y) (number w y) false (number-lt w y) (omega arith)
+
+choice-writes : (k : Compare) (on : List ℕ) (picks : Bool → Bool) (n a b to : ℕ) (reads : Bool) (value : (ℕ → ℕ) → Bool → ℕ) (e : ℕ → ℕ → Bool)
+    → Apart carry_row truth_row (a ∷ b ∷ []) → a ≢ result_row → b ≢ result_row → Apart carry_row truth_row k.from → to < 32
+    → Folds k.carries → Folds k.last → Folds on → Picks on picks
+    → ((c : Bool) → cond (picks (truth_of k n a b e)) (number (suc n) (e a)) (number (suc n) (e b)) ≡ value (λ r. number (suc n) (e r)) c)
+    → Writes (suc n) to reads value e (steps_on (choice_steps k on (suc n) a b to) e)
+unfolding steps_on choice_steps
+choice-writes k on picks n a b to reads value e rows first second from register carry last fold picks_on is =
+    let w = suc n in
+    let z : suc n - 1 ≡ n = omega arith in
+    let truth = truth_of k n a b e in
+    let e1 = steps_on (truth_steps k w a b) e in
+    let e2 = steps_on (downs truth_row n) e1 in
+    let e3 = step_on (clear w result_row) e2 in
+    let merge = everywhere w (truth_row ∷ operands a b) (values_of on a b) result_row true in
+    let e4 = step_on merge e3 in
+    let t = told k n a b e rows from carry last in
+    let same : (r j : ℕ) → r ≢ carry_row → r ≢ truth_row → r ≢ result_row → e3 r j ≡ e r j =
+    λ r j p q s. step-row (clear w result_row) e2 r j s ∙ downs-row truth_row n e1 r j q ∙ t.rest r j p q in
+    let truths : (j : ℕ) → j < w → e3 truth_row j ≡ truth =
+    λ j l. step-row (clear w result_row) e2 truth_row j (omega arith) ∙ downs-here truth_row n e1 t.low j (omega arith) ∙ t.top in
+    let here : (j : ℕ) → j < w → e4 result_row j ≡ cond (picks truth) (e a j) (e b j) =
+    λ j l. everywhere-here w (truth_row ∷ operands a b) (values_of on a b) result_row true e3 j l
+    ∙ ap (cond (fires (truth_row ∷ operands a b) (values_of on a b) (λ r. e3 r j)) true) (clear-here w result_row e2 j l)
+    ∙ as_found (fires (truth_row ∷ operands a b) (values_of on a b) (λ r. e3 r j))
+    ∙ fires-hit (truth_row ∷ operands a b) (values_of on a b) (λ r. e3 r j)
+    ∙ found on a b (e3 truth_row j) (λ r. e3 r j) fold
+    ∙ picks_on (e3 truth_row j) (e3 a j) (e3 b j)
+    ∙ rw (truths j l, same a j rows.0 rows.1 first, same b j rows.2.0 rows.2.1 second) refl in
+    let result : number w (e4 result_row) ≡ cond (picks truth) (number w (e a)) (number w (e b)) =
+    number-same w (e4 result_row) (λ j. cond (picks truth) (e a j) (e b j)) here ∙ picked w (picks truth) (e a) (e b) in
+    rw (z, steps_on-append (truth_steps k w a b) (downs truth_row n ++ clear w result_row ∷ merge ∷ commit w result_row to) e, steps_on-append (downs truth_row n) (clear w result_row ∷ merge ∷ commit w result_row to) e1)
+    (commit-writes w result_row to reads value e e4 (omega arith) register
+    (λ c mask. result ∙ low-picked w (picks truth) (e a) (e b) ∙ ap (low w) (is c))
+    (λ r j low l. step-row merge e3 r j (omega arith) ∙ same r j (omega arith) (omega arith) (omega arith)))
+
+choice-fits : (k : Compare) (on : List ℕ) (n a b to : ℕ) → AllFit (suc n) (choice_steps k on (suc n) a b to)
+unfolding choice_steps
+choice-fits k on n a b to =
+    let w = suc n in
+    let merge = everywhere w (truth_row ∷ operands a b) (values_of on a b) result_row true in
+    let rest : List Step = clear w result_row ∷ merge ∷ commit w result_row to in
+    AllFit-append w (truth_steps k w a b) (downs truth_row (w - 1) ++ rest) (truth-fits k n a b)
+    (AllFit-append w (downs truth_row (w - 1)) rest (downs-fit w truth_row (w - 1) (omega arith))
+    (everywhere-fits w [] (0 ∷ []) result_row false, (everywhere-fits w (truth_row ∷ operands a b) (values_of on a b) result_row true, commit-fits w result_row to)))
+
+-- the list realises what the comparison and the table choose
+choice-realises : (k : Compare) (on : List ℕ) (picks : Bool → Bool) (value : (w a b : ℕ) → ℕ) → Apart carry_row truth_row k.from → Folds k.carries → Folds k.last → Folds on → Picks on picks
+    → ((n a b : ℕ) (e : ℕ → ℕ → Bool) → cond (picks (truth_of k n a b e)) (number (suc n) (e a)) (number (suc n) (e b)) ≡ value (suc n) (number (suc n) (e a)) (number (suc n) (e b)))
+    → ChoiceNumbers k on value
+choice-realises k on picks value from carry last fold picks_on is zero a b to reads pos rows first second register = absurd (omega arith)
+choice-realises k on picks value from carry last fold picks_on is (suc n) a b to reads pos rows first second register =
+    lifted (suc n) to reads (λ v c. value (suc n) (v a) (v b)) (choice_steps k on (suc n) a b to) (choice-fits k on n a b to)
+    (λ e. choice-writes k on picks n a b to reads (λ v c. value (suc n) (v a) (v b)) e rows first second from register carry last fold picks_on (λ c. is n a b e))
+
+-- ---- the kinds
+
+first-folds : Folds first_on
+first-folds = folds first_on refl
+
+second-folds : Folds second_on
+second-folds = folds second_on refl
+
+first-picks : Picks first_on (λ c. c)
+first-picks true true true = refl
+first-picks true true false = refl
+first-picks true false true = refl
+first-picks true false false = refl
+first-picks false true true = refl
+first-picks false true false = refl
+first-picks false false true = refl
+first-picks false false false = refl
+
+second-picks : Picks second_on not
+second-picks true true true = refl
+second-picks true true false = refl
+second-picks true false true = refl
+second-picks true false false = refl
+second-picks false true true = refl
+second-picks false true false = refl
+second-picks false false true = refl
+second-picks false false false = refl
+
+turned : (c : Bool) (x y : ℕ) → cond (not c) x y ≡ cond c y x
+turned true x y = refl
+turned false x y = refl
+
+pub minu-numbers : ChoiceNumbers ltu first_on (λ w a b. cond (ltb a b) a b)
+minu-numbers = choice-realises ltu first_on (λ c. c) (λ w a b. cond (ltb a b) a b) tt borrow-folds borrow-folds first-folds first-picks
+    (λ n a b e. ap (λ c. cond c (number (suc n) (e a)) (number (suc n) (e b))) (ltu-is n a b e))
+
+pub maxu-numbers : ChoiceNumbers ltu second_on (λ w a b. cond (ltb a b) b a)
+maxu-numbers = choice-realises ltu second_on not (λ w a b. cond (ltb a b) b a) tt borrow-folds borrow-folds second-folds second-picks
+    (λ n a b e. turned (truth_of ltu n a b e) (number (suc n) (e a)) (number (suc n) (e b)) ∙ ap (λ c. cond c (number (suc n) (e b)) (number (suc n) (e a))) (ltu-is n a b e))
+
+pub min-numbers : ChoiceNumbers lt first_on (λ w a b. cond (ltb (biased w a) (biased w b)) a b)
+min-numbers = choice-realises lt first_on (λ c. c) (λ w a b. cond (ltb (biased w a) (biased w b)) a b) tt borrow-folds most_not-folds first-folds first-picks
+    (λ n a b e. ap (λ c. cond c (number (suc n) (e a)) (number (suc n) (e b))) (lt-is n a b e))
+
+pub max-numbers : ChoiceNumbers lt second_on (λ w a b. cond (ltb (biased w a) (biased w b)) b a)
+max-numbers = choice-realises lt second_on not (λ w a b. cond (ltb (biased w a) (biased w b)) b a) tt borrow-folds most_not-folds second-folds second-picks
+    (λ n a b e. turned (truth_of lt n a b e) (number (suc n) (e a)) (number (suc n) (e b)) ∙ ap (λ c. cond c (number (suc n) (e b)) (number (suc n) (e a))) (lt-is n a b e))

@@ -1,0 +1,3 @@
+-- Lemmas on counts of tags and on bits of a number.
+pub mod Counting
+pub mod Bits
