@@ -1,4 +1,4 @@
-"""Makes random programs of vand, vor, vxor and vmv.v, and compares their last states with the executable model's.
+"""Makes random programs of vector instructions on integers, and compares their last states with the executable model's.
 
     compare_vectors.py compare CAPE MODEL FOLDER FIRST LAST [--counts]   compares the programs of the seeds
     compare_vectors.py image SEED FILE                                   writes one program, and shows its options
@@ -10,13 +10,45 @@ import os
 import random
 import subprocess
 import sys
+import typing
 
 from guest import CODE, SETTINGS, image, load
 
-KINDS = {"vand": 9, "vor": 10, "vxor": 11, "vmv": 23}
 # The f3 of the forms with a register, a scalar register and an immediate.
 V, X, I = 0, 4, 3
 FORMS = [V, X, I]
+
+
+class Kind(typing.NamedTuple):
+    """The funct6 of an instruction, its forms, the values of vm that it has, and whether it writes a mask."""
+
+    funct6: int
+    forms: list
+    unmasked: list
+    writes_mask: bool = False
+
+
+EITHER, ALWAYS, NEVER = [0, 0, 0, 1, 1], [0], [1]
+MOVE, MERGE = Kind(23, FORMS, NEVER), Kind(23, FORMS, ALWAYS)
+KINDS = [
+    *(Kind(funct6, FORMS, EITHER) for funct6 in (0, 9, 10, 11)),  # vadd, vand, vor, vxor
+    *(Kind(funct6, [V, X], EITHER) for funct6 in (2, 4, 5, 6, 7)),  # vsub, vminu, vmin, vmaxu, vmax
+    Kind(3, [X, I], EITHER),  # vrsub
+    Kind(16, FORMS, ALWAYS),  # vadc
+    Kind(18, [V, X], ALWAYS),  # vsbc
+    MERGE,
+    MOVE,
+    Kind(17, FORMS, EITHER, True),  # vmadc
+    Kind(19, [V, X], EITHER, True),  # vmsbc
+    *(Kind(funct6, FORMS, EITHER, True) for funct6 in (24, 25, 28, 29)),  # vmseq, vmsne, vmsleu, vmsle
+    *(Kind(funct6, [V, X], EITHER, True) for funct6 in (26, 27)),  # vmsltu, vmslt
+    *(Kind(funct6, [X, I], EITHER, True) for funct6 in (30, 31)),  # vmsgtu, vmsgt
+]
+MASK_KINDS = [kind for kind in KINDS if kind.writes_mask]
+# The kinds that have a masked word and do not write a mask, and those that lack a form or a value of vm.
+MASKED_KINDS = [kind for kind in KINDS if 0 in kind.unmasked and not kind.writes_mask]
+FORM_LESS = [kind for kind in KINDS if len(kind.forms) < len(FORMS)]
+MASK_LESS = [kind for kind in KINDS if kind.unmasked == ALWAYS and kind != MERGE]
 # The funct6 that no OPI word has, and the f3 of the forms on floating-point numbers, which do not exist here.
 NO_ROW = [8, 13, 20, 21, 22, 36, 38]
 FLOATING = [1, 5]
@@ -32,7 +64,7 @@ ECALL = 0x00000073
 # The longest VLEN takes long: one program in WIDE_APART has it.
 WIDE = 65536
 WIDE_APART = 40
-NARROW = [32, 128, 1024]
+NARROW = [32, 64, 128, 1024]
 # Seconds after which a run has failed.
 LONGEST = 300
 # How many differing programs are told.
@@ -92,6 +124,7 @@ class Program:
         self.words = []
         self.vtype = None
         self.vl = 0
+        self.pair = None
         self.options = self.any_options()
         self.fill()
         for register in SCALARS[1:]:
@@ -137,7 +170,7 @@ class Program:
                 immediate_word(16, DRAWN, 5, SHIFTED),
                 register_word(0, DRAWN, SHIFTED, 4, SHIFTED),
                 set_first(ELEMENT),
-                vector_word(KINDS["vmv"], 1, 0, SHIFTED, X, register),
+                vector_word(MOVE.funct6, 1, 0, SHIFTED, X, register),
             ]
         self.words.append(immediate_word(apart, ELEMENT, 0, ELEMENT))
         self.words.append(branch_below(ELEMENT, LENGTHS[1], 4 * (again - len(self.words))))
@@ -188,7 +221,7 @@ class Program:
             self.request(0, 0, vtype)
         else:
             self.words.append(VSETIVLI | vtype << 20 | avl << 15 | rd << 7)
-        self.vtype, self.vl = vtype, length
+        self.vtype, self.vl, self.pair = vtype, length, None
 
     def refuse(self):
         """Asks for a vector type that is not supported, or to keep the length under one with another greatest length."""
@@ -198,7 +231,7 @@ class Program:
             self.request(0, 0, rng.choice(others))
         else:
             self.request(rng.choice(LENGTHS), rng.choice(SCALARS), rng.choice(UNSUPPORTED))
-        self.vtype, self.vl = None, 0
+        self.vtype, self.vl, self.pair = None, 0, None
 
     def start(self):
         """Sets the first element of the next instruction: below the length, at it, or behind it."""
@@ -208,41 +241,69 @@ class Program:
         first = rng.choice(corners) if rng.random() < 0.4 else rng.randrange(max(1, self.vl))
         self.words += load(FROM, min(max(first, 0), self.vlen - 1)) + [set_first(FROM)]
 
+    def registers(self):
+        """How many registers a group takes under the present setting."""
+        return max(4, lmul(self.vtype)) // 4
+
     def group(self):
         """The first register of a group under the present setting, v0 preferred."""
-        apart = max(4, lmul(self.vtype)) // 4
-        return 0 if self.rng.random() < 0.15 else self.rng.randrange(0, 32, apart)
+        return 0 if self.rng.random() < 0.15 else self.rng.randrange(0, 32, self.registers())
 
-    def operands(self):
-        """vd, vs2 and what stands for vs1: often equal."""
+    def spared_group(self):
+        """The first register of a group that does not hold the mask."""
+        return self.rng.randrange(self.registers(), 32, self.registers())
+
+    def second(self, form, vs2):
+        """What stands for vs1: a register is often vs2."""
         rng = self.rng
+        if form == V:
+            return vs2 if rng.random() < 0.2 else self.group()
+        return rng.choice(SCALARS) if form == X else rng.getrandbits(5)
+
+    def sources(self, kind):
+        """A form of the kind, vs2 and what stands for vs1; those that were made alike are preferred."""
+        rng = self.rng
+        if self.pair is not None and self.pair[0] in kind.forms and rng.random() < 0.8:
+            return self.pair
+        form = rng.choice([*kind.forms[:1], *kind.forms])
         vs2 = self.group()
-        vs1 = vs2 if rng.random() < 0.2 else self.group()
-        vd = rng.choice([vs2, vs2, vs1] + [self.group()] * 7)
-        return vd, vs2, vs1
+        return form, vs2, self.second(form, vs2)
+
+    def destination(self, kind, unmasked, form, vs2, vs1):
+        """A legal vd: often a source. A mask is the first register of a source or in none."""
+        rng = self.rng
+        sources = [vs2, vs1] if form == V else [vs2]
+        if not kind.writes_mask:
+            vd = rng.choice([*sources, vs2] + [self.group()] * 7)
+            return vd if vd != 0 or unmasked else self.spared_group()
+        vd = rng.choice([*sources, 0, 0] + [rng.randrange(32)] * 6)
+        while any(source < vd < source + self.registers() for source in sources):
+            vd = rng.randrange(32)
+        return vd
 
     def any_word(self):
         """A legal word of one of the kinds under the present setting."""
         rng = self.rng
-        vd, vs2, vs1 = self.operands()
-        kind = rng.choice(list(KINDS))
-        form = rng.choice([V, *FORMS])
-        unmasked = int(kind == "vmv" or rng.random() < 0.4)
-        if not unmasked:
-            while vd == 0:
-                vd = self.group()
-        if kind == "vmv":
-            vs2 = 0
-        if form != V:
-            vs1 = rng.choice(SCALARS) if form == X else rng.getrandbits(5)
-        return vector_word(KINDS[kind], unmasked, vs2, vs1, form, vd)
+        kind = rng.choice(KINDS)
+        form, vs2, vs1 = self.sources(kind)
+        unmasked = rng.choice(kind.unmasked)
+        vd = self.destination(kind, unmasked, form, vs2, vs1)
+        return vector_word(kind.funct6, unmasked, 0 if kind == MOVE else vs2, vs1, form, vd)
+
+    def alike(self):
+        """Makes elements of a group equal to another operand where the mask is 1, for the next word."""
+        form = self.rng.choice(FORMS)
+        vs2 = self.spared_group()
+        vs1 = self.second(form, vs2)
+        self.words.append(vector_word(MERGE.funct6, 0, vs2, vs1, form, vs2))
+        self.pair = form, vs2, vs1
 
     def mask(self):
         """Puts a mask into v0: none, all, or a drawn word again and again."""
         self.configure(E32_M1, self.vlen // 32)
         drawn = self.rng.getrandbits(32)
         self.words += load(FROM, self.rng.choice([0, MOST, drawn, drawn]))
-        self.words.append(vector_word(KINDS["vmv"], 1, 0, FROM, X, 0))
+        self.words.append(vector_word(MOVE.funct6, 1, 0, FROM, X, 0))
 
     def round(self, fresh):
         """Perhaps a mask, a setting and a first element, and one word of the kinds."""
@@ -255,6 +316,8 @@ class Program:
             vtype = self.any_type()
             kept = self.keeps_vlmax(vtype) and rng.random() < 0.4
             self.configure(vtype, self.vl if kept else self.any_length(vtype))
+        if rng.random() < 0.2:
+            self.alike()
         if rng.random() < 0.5:
             self.start()
         self.words.append(self.any_word())
@@ -263,31 +326,40 @@ class Program:
         """An illegal word, with what makes it illegal before it."""
         rng = self.rng
         vtype = self.any_type()
-        kinds = [self.masks_itself, self.no_type, self.two_sources, self.no_row, self.merges_mask]
+        ways = [self.masks_itself, self.no_type, self.two_sources, self.no_row, self.no_form]
         if lmul(vtype) > 4:
-            kinds += [self.misaligned] * 2
+            ways += [self.misaligned, self.in_source] * 2
         self.configure(vtype, self.any_length(vtype))
         if rng.random() < 0.5:
             self.start()
-        return rng.choice(kinds)()
+        return rng.choice(ways)()
 
     def misaligned(self):
         """One of the registers is not the first of a group."""
         rng = self.rng
-        kind = rng.choice(list(KINDS))
-        registers = list(self.operands())
-        at = rng.choice([0, 2]) if kind == "vmv" else rng.randrange(3)
-        registers[at] += rng.randrange(1, lmul(self.vtype) // 4)
+        kind = rng.choice(KINDS)
+        form, vs2, vs1 = self.sources(kind)
+        unmasked = rng.choice(kind.unmasked)
+        registers = [self.destination(kind, unmasked, form, vs2, vs1), 0 if kind == MOVE else vs2, vs1]
+        places = [0] * (not kind.writes_mask) + [1] * (kind != MOVE) + [2] * (form == V)
+        registers[rng.choice(places)] |= rng.randrange(1, self.registers())
         vd, vs2, vs1 = registers
-        if kind == "vmv":
-            return vector_word(KINDS[kind], 1, 0, vs1, V, vd)
-        return vector_word(KINDS[kind], rng.getrandbits(1), vs2, vs1, V, vd)
+        return vector_word(kind.funct6, unmasked, vs2, vs1, form, vd)
+
+    def in_source(self):
+        """A mask is written into a source, but not into its first register."""
+        rng = self.rng
+        kind = rng.choice(MASK_KINDS)
+        form, vs2, vs1 = self.sources(kind)
+        source = rng.choice([vs2, vs1] if form == V else [vs2])
+        vd = source + rng.randrange(1, self.registers())
+        return vector_word(kind.funct6, rng.choice(kind.unmasked), vs2, vs1, form, vd)
 
     def masks_itself(self):
         """A masked word whose destination is the mask."""
-        rng = self.rng
-        kind = rng.choice(["vand", "vor", "vxor"])
-        return vector_word(KINDS[kind], 0, self.group(), self.group(), rng.choice(FORMS), 0)
+        kind = self.rng.choice(MASKED_KINDS)
+        form, vs2, vs1 = self.sources(kind)
+        return vector_word(kind.funct6, 0, vs2, vs1, form, 0)
 
     def no_type(self):
         """A word that is legal under every vector type, and no vector type."""
@@ -299,20 +371,27 @@ class Program:
 
     def two_sources(self):
         """A move that names a second source."""
-        vd, _, vs1 = self.operands()
-        return vector_word(KINDS["vmv"], 1, self.rng.randrange(1, 32), vs1, self.rng.choice(FORMS), vd)
+        form, vs2, vs1 = self.sources(MOVE)
+        vd = self.destination(MOVE, 1, form, vs2, vs1)
+        return vector_word(MOVE.funct6, 1, self.rng.randrange(1, 32), vs1, form, vd)
 
     def no_row(self):
         """A word near the kinds that no instruction has."""
         rng = self.rng
-        vd, vs2, vs1 = self.operands()
-        near = [(rng.choice(NO_ROW), rng.choice(FORMS)), (rng.choice(list(KINDS.values())), rng.choice(FLOATING))]
+        near = [(rng.choice(NO_ROW), rng.choice(FORMS)), (rng.choice(KINDS).funct6, rng.choice(FLOATING))]
         funct6, form = rng.choice(near)
-        return vector_word(funct6, rng.getrandbits(1), vs2, vs1, form, vd)
+        return vector_word(funct6, rng.getrandbits(1), self.group(), self.group(), form, self.group())
 
-    def merges_mask(self):
-        """A move with a mask is a merge, which reads the mask and must not write it."""
-        return vector_word(KINDS["vmv"], 0, self.group(), self.group(), self.rng.choice(FORMS), 0)
+    def no_form(self):
+        """A word of a kind in a form that it lacks, or without the mask that it always reads."""
+        rng = self.rng
+        if rng.random() < 0.3:
+            kind = rng.choice(MASK_LESS)
+            form, vs2, vs1 = self.sources(kind)
+            return vector_word(kind.funct6, 1, vs2, vs1, form, self.spared_group())
+        kind = rng.choice(FORM_LESS)
+        form = rng.choice([form for form in FORMS if form not in kind.forms])
+        return vector_word(kind.funct6, rng.choice(kind.unmasked), self.group(), self.group(), form, self.spared_group())
 
 
 def told_by(program, path, options, environment):
@@ -346,7 +425,7 @@ def compared(job):
     with open(path, "wb") as file:
         file.write(image(program.words))
     # The level of the model's grammar that has the option; without counts it need not carry out the operations.
-    environment = {"CAPE_REF_LEVEL": "13"} if counted else {"CAPE_REF_LEVEL": "4", "CAPE_REF_FAST": "1"}
+    environment = {"CAPE_REF_LEVEL": "13"} if counted else {"CAPE_REF_LEVEL": "5", "CAPE_REF_FAST": "1"}
     options = program.options + (["--counts"] if counted else [])
     theirs = told_by(model, path, options, environment)
     ours = told_by(cape, path, options, {})

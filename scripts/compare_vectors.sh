@@ -1,7 +1,8 @@
 #!/usr/bin/env bash
-# Compares the last states of `cape run --state` with the executable model on random programs of vand, vor, vxor and
-# vmv.v: all forms, settings, masks, policies and first elements, legal or not, at VLEN 32, 128, 1,024 and, one in forty,
-# 65,536. The programs are told by their seeds. Skips where the model is missing.
+# Compares the last states of `cape run --state` with the executable model on random programs of the instructions on
+# integers that add, subtract, compare, choose, merge, move or act bit by bit: all forms, settings, masks, policies and first
+# elements, equal and overlapping registers, nine in ten legal, at VLEN 32, 64, 128, 1,024 and, one in forty, 65,536. The
+# programs are told by their seeds. Skips where the model is missing.
 #   scripts/compare_vectors.sh [--counts] [CAPE] [FIRST] [LAST]
 #     --counts     compares the counts as well
 #     CAPE         the built program, crates/cape/out/cape by default

@@ -1,2 +1,6 @@
-//! Numbers of lists of bits: the definitions and their laws. It holds no code.
+//! Widths of elements, and laws of numbers of bits and of bytes.
 #![tactic(auto)]
+
+mod width;
+
+pub use width::{W8, W16, W32, Width};

@@ -1,18 +1,16 @@
 -- From what a run leaves to how the top call ends.
-use Rattle.std.proofs.Common.{◌≡◌, ℕ, Bool, false, true, List, [], ◌∷◌, ◌++◌, Option, Some, None, refl, sym, ap, ◌∙◌, append_assoc, append-nil, take, drop}
+use Rattle.std.proofs.Common.{◌≡◌, ℕ, Bool, false, true, List, [], ◌++◌, Option, refl, sym, ap, append_assoc, append-nil, take, drop}
 use Rattle.std.specs.Io.KnownBytes.{Appends}
 use Rattle.std.proofs.lemmas.List.{take-append-drop}
 use Rattle.cape_io.specs.Devices.{PutsFront}
-use Rattle.bit_rows.specs.Slices.{Slices}
-use Rattle.cam_chain.specs.ChainValue.{slices_of}
 use Rattle.rvv_meaning.specs.declared.Mode.{Mode}
 use Rattle.rvv_meaning.specs.declared.Mode.TheVariants.{Running, Exited, Trapped, Unbuilt}
-use Rattle.rvv_meaning.specs.States.{State, Core, run}
+use Rattle.rvv_meaning.specs.States.{State, run}
 use Rattle.rvv_meaning.specs.Texts.{report, report_at}
 use Rattle.machine.specs.declared.answers.Step.{Step}
 use Rattle.machine.specs.Answers.{answer_of}
 use Rattle.machine.specs.Moments.{Held, Moment, moments}
-use Rattle.machine.specs.Views.{Shows, GoesBy, FaultsIn, ReadsIn, GainsFront, IsFrontOf}
+use Rattle.machine.specs.Views.{Shows, GoesBy, FaultsIn, ReadsIn}
 use Rattle.machine.proofs.Showing.{appends_more}
 use Rattle.machine.proofs.Runs.{state_run}
 use Rattle.cape.specs.declared.ending.Status.{Status}

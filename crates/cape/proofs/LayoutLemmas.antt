@@ -1,9 +1,8 @@
 -- What the text about the layout of an image rests on: digits, pages, edges, runs and what was put.
-use Rattle.std.proofs.Common.{◌≡◌, ℕ, zero, suc, ◌+◌, ◌-◌, ◌*◌, ◌/◌, ◌%◌, ◌^◌, ◌<◌, ◌≤◌, min, Bool, true, false, List, [], ◌∷◌, ◌++◌, length, take, drop, map, get_or, Option, Some, None, Result, Ok, Err, OnErr, refl, sym, ap, ◌∙◌, subst, append_assoc, append-nil, arith, ◌==◌, bit_or, bit_and, inl, inr, ◌⊎◌}
+use Rattle.std.proofs.Common.{◌≡◌, ℕ, zero, suc, ◌+◌, ◌-◌, ◌/◌, ◌%◌, ◌^◌, ◌<◌, ◌≤◌, min, Bool, true, false, List, [], ◌∷◌, ◌++◌, length, take, drop, map, get_or, Option, Some, None, Result, Ok, Err, OnErr, refl, sym, ap, ◌∙◌, subst, append_assoc, append-nil, arith, ◌==◌, bit_or, bit_and, inl, inr, ◌⊎◌}
 use Rattle.std.specs.Prelude.{◌||◌, if◌then◌else◌}
-use Rattle.std.proofs.Math.Nat.{pow-succ'}
 use Rattle.std.proofs.Math.Seq.{take-append-add}
-use Rattle.std.proofs.lemmas.Nat.{pow-add, pow_pos}
+use Rattle.std.proofs.lemmas.Nat.{pow_pos}
 use Rattle.std.specs.Int.Bits.{or_zero_r}
 use Rattle.std.proofs.lemmas.Nat.Bits.{same_from_bits, bit_at_or, and_pow}
 use Rattle.std.proofs.lemmas.Bool.Decides.{nat_tests}
@@ -13,25 +12,12 @@ use Rattle.std.specs.List.{All, list_any}
 use Rattle.std.specs.Io.KnownBytes.{Appends}
 use Rattle.cape_io.specs.Devices.{PutsFront}
 use Rattle.guest_mem.specs.declared.regions.Region.{Region}
-use Rattle.rvv_meaning.specs.Texts.{hex_digit, hex_digits, hex_word}
+use Rattle.bit_laws.specs.Digits.{hex_word}
 use Rattle.elf_load.specs.declared.spans.Span.{Span}
 use Rattle.elf_load.specs.Layout.{span_of, meets, is_mapped, page_perms, page_numbers}
 use Rattle.cape.specs.Layouts.{perms_of, same_perms, letter, line_of_run, lines_from, map_lines, IsSteady, IsRun}
 
 -- ---- digits
-
-pow_sixteen : (k : ℕ) → 2 ^ (4 * k) ≡ 16 ^ k
-pow_sixteen zero = refl
-pow_sixteen (suc k) =
-    let e : 4 * suc k ≡ 4 + 4 * k = omega arith in
-    ap (λ n. 2 ^ n) e ∙ pow-add 2 4 (4 * k) ∙ ap (λ n. 16 * n) (pow_sixteen k) ∙ sym (pow-succ' 16 k)
-
--- the highest of the digits that are left, and the rest of them
-pub hex_digits_more : (place value : ℕ) → 0 < place → hex_digits place value ≡ hex_digit (value / 2 ^ (4 * (place - 1)) % 16) ∷ hex_digits (place - 1) value
-hex_digits_more zero value some = absurd (omega arith)
-hex_digits_more (suc n) value some =
-    let e : suc n - 1 ≡ n = omega arith in
-    rw (e, pow_sixteen n) refl
 
 -- a word has the digits of any number that is the same at 32 bits
 pub hex_word_wraps : (n : ℕ) → hex_word (n % 2 ^ 32) ≡ hex_word n

@@ -4,7 +4,8 @@ use Rattle.std.specs.Prelude.{decimal}
 use Rattle.std.specs.Io.KnownBytes.{Appends}
 use Rattle.cape_io.specs.Devices.{PutsFront}
 use Rattle.rvv_meaning.specs.States.{Core}
-use Rattle.rvv_meaning.specs.Texts.{newline, hex_digit}
+use Rattle.bit_laws.specs.Digits.{hex_digit}
+use Rattle.rvv_meaning.specs.Texts.{newline}
 use Rattle.cape.specs.StateTexts.{hex_byte, word_line, register_lines, control_lines, vector_bytes, vector_line, vector_lines, state_text}
 use Rattle.cape.proofs.PutLemmas.{IsPut, nothing_put, piece_put, front_put, last_front}
 

@@ -1,12 +1,10 @@
 -- How a command ends, by what was loaded, and a machine at its start shows the start.
-use Rattle.std.proofs.Common.{◌≡◌, ◌⊎◌, inl, inr, ℕ, ◌/◌, false, List, [], map, take, drop, Option, Some, None, refl, sym, ap, ◌∙◌, subst}
+use Rattle.std.proofs.Common.{◌≡◌, ◌⊎◌, inl, inr, ℕ, ◌/◌, false, List, [], map, take, drop, Option, Some, None, refl, sym, ap, subst}
 use Rattle.std.proofs.lemmas.List.{take-append-drop}
-use Rattle.std.specs.Io.KnownBytes.{Appends}
 use Rattle.cape_io.specs.Devices.{PutsFront}
 use Rattle.guest_mem.specs.Pages.{Memory}
 use Rattle.elf_load.specs.Faults.{fault}
-use Rattle.elf_load.specs.Fields.{entry}
-use Rattle.elf_load.specs.Layout.{regions, span_of}
+use Rattle.elf_load.specs.Layout.{span_of}
 use Rattle.elf_load.specs.declared.faults.LoadFault.{LoadFault}
 use Rattle.elf_load.specs.declared.loaded.Loaded.{Loaded}
 use Rattle.bit_rows.specs.Slices.{blank}
@@ -14,9 +12,8 @@ use Rattle.cam_chain.specs.ChainValue.{slices_of}
 use Rattle.vtype_cfg.specs.declared.configuration.Policy.{Policy}
 use Rattle.rvv_meaning.specs.declared.Mode.{Mode}
 use Rattle.rvv_meaning.specs.declared.Mode.TheVariants.{Running, Exited, Trapped, Unbuilt}
-use Rattle.rvv_meaning.specs.States.{State, Core}
 use Rattle.rvv_meaning.specs.Images.{start_core, start_state}
-use Rattle.machine.specs.Moments.{Held, Moment, first_moment, moments, slices_after}
+use Rattle.machine.specs.Moments.{Held, first_moment}
 use Rattle.machine.specs.Opening.{start, memory_of}
 use Rattle.machine.specs.Views.{Shows, GainsFront}
 use Rattle.machine.specs.Answers.{answer_of}
@@ -27,7 +24,7 @@ use Rattle.cape.specs.declared.ending.Status.TheVariants.{Done, Trapped as HasTr
 use Rattle.cape.specs.declared.words.Command.{Command}
 use Rattle.cape.specs.declared.words.Command.TheVariants.{Run, Check}
 use Rattle.cape.specs.declared.words.RunOptions.{RunOptions}
-use Rattle.cape.specs.Endings.{Ending, IsEnded, IsFault, IsOfRun, KeepsMachine, ending, ending_from, refused, checked, status_for_answer, held_for}
+use Rattle.cape.specs.Endings.{IsEnded, IsFault, IsOfRun, KeepsMachine, ending, ending_from, refused, checked, status_for_answer, held_for}
 use Rattle.cape.specs.Layouts.{layout_text}
 use Rattle.cape.specs.Reading.{IsLoadedFrom}
 

@@ -1,6 +1,7 @@
 -- The text about the layout of an image: its entry, and its pages.
 use Rattle.std.specs.Prelude.{ℕ, zero, suc, ◌+◌, ◌-◌, ◌*◌, ◌/◌, ◌%◌, ◌==◌, ◌<◌, ◌≤◌, ◌≡◌, Bool, true, false, List, [], ◌∷◌, ◌++◌, codes, Option, Some, None, if◌then◌else◌}
-use Rattle.rvv_meaning.specs.Texts.{hex_word, newline}
+use Rattle.bit_laws.specs.Digits.{hex_word}
+use Rattle.rvv_meaning.specs.Texts.{newline}
 use Rattle.elf_load.specs.declared.spans.Span.{Span}
 use Rattle.elf_load.specs.Layout.{page_size, page_numbers, meets, is_mapped, page_perms}
 

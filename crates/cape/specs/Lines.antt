@@ -1,9 +1,10 @@
 -- The lines that a command puts at its end.
-use Rattle.std.specs.Prelude.{ℕ, List, ◌∷◌, [], ◌++◌, codes}
+use Rattle.std.specs.Prelude.{ℕ, List, ◌++◌, codes}
 use Rattle.std.specs.Fmt.{decimal}
 use Rattle.elf_load.specs.declared.faults.LoadFault.{LoadFault}
 use Rattle.elf_load.specs.Names.{number_of, name_of}
-use Rattle.rvv_meaning.specs.Texts.{newline, hex_word}
+use Rattle.bit_laws.specs.Digits.{hex_word}
+use Rattle.rvv_meaning.specs.Texts.{newline}
 use Rattle.machine.specs.declared.answers.Step.{Step}
 use Rattle.machine.specs.declared.answers.Step.TheVariants.{Ran, Exited, Trapped, Unbuilt}
 

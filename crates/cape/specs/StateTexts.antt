@@ -4,7 +4,8 @@ use Rattle.std.specs.Fmt.{decimal}
 use Rattle.std.specs.List.{flat_map, range_with_len}
 use Rattle.rvv_meaning.specs.States.{Core}
 use Rattle.rvv_meaning.specs.declared.Csrs.{Csrs}
-use Rattle.rvv_meaning.specs.Texts.{hex_digits, hex_word, newline}
+use Rattle.bit_laws.specs.Digits.{hex_digits, hex_word}
+use Rattle.rvv_meaning.specs.Texts.{newline}
 
 -- a name with a word in hexadecimal digits, or with a number
 abbrev pub word_line : List ℕ → ℕ → List ℕ

@@ -1,7 +1,8 @@
 // The lines that a command ends with.
 ghost use Rattle.std.specs.Prelude.{◌≡◌, ◌≤◌, ◌+◌, ◌++◌, codes, decimal};
 ghost use Rattle.arrayvec.specs.ArrayString.{array_string_len};
-ghost use Rattle.rvv_meaning.specs.Texts.{newline, hex_word};
+ghost use Rattle.bit_laws.specs.Digits.{hex_word};
+ghost use Rattle.rvv_meaning.specs.Texts.{newline};
 ghost use Rattle.cape.specs.Lines.{line_of, refused_line as line_for};
 
 use crate::text::{Line, push_hex};

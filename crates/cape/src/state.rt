@@ -4,7 +4,8 @@ ghost use Rattle.std.specs.Io.KnownBytes.{Appends};
 ghost use Rattle.std.specs.List.{flat_map, range_with_len};
 ghost use Rattle.arrayvec.specs.ArrayString.{array_string_len};
 ghost use Rattle.cape_io.specs.Devices.{PutsFront, Rose};
-ghost use Rattle.rvv_meaning.specs.Texts.{hex_word, newline};
+ghost use Rattle.bit_laws.specs.Digits.{hex_word};
+ghost use Rattle.rvv_meaning.specs.Texts.{newline};
 ghost use Rattle.cape.specs.StateTexts.{word_line, number_line, register_line, register_lines, control_lines, hex_byte, vector_byte, vector_bytes, vector_line, vector_lines, state_text, flag};
 
 use crate::text::{Line, push_byte, push_hex, put_line};

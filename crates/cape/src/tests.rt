@@ -254,7 +254,7 @@ fn ends_so(alloc: Global, image: &[u8], status: Status, err: &[u8]) -> Result<bo
 fn what_is_not_built_ends_a_run(rt: HostRuntime) -> Result<(), Fail> {
     let alloc = rt.alloc();
     let programs: [([u32; 2], &str); 3] = [
-        ([0xcd027057, 0x02218257], "vadd"),
+        ([0xcd027057, 0x9621a0d7], "vmul"),
         ([0xcd027057, 0x0205e007], "a load"),
         ([0xcd027057, 0x0205e027], "a store"),
     ];

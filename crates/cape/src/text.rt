@@ -3,7 +3,7 @@ ghost use Rattle.std.specs.Prelude.{◌≡◌, ◌+◌, ◌<◌, ◌≤◌, ◌+
 ghost use Rattle.std.specs.Io.KnownBytes.{Appends};
 ghost use Rattle.cape_io.specs.Devices.{PutsFront, Rose};
 ghost use Rattle.arrayvec.specs.ArrayString.{array_string_len};
-ghost use Rattle.rvv_meaning.specs.Texts.{hex_digit, hex_word};
+ghost use Rattle.bit_laws.specs.Digits.{hex_digit, hex_word};
 ghost use Rattle.cape.specs.StateTexts.{hex_byte};
 
 use arrayvec::ArrayString;
@@ -34,7 +34,7 @@ fn hex_glyph(digit: u32) -> char
 }
 
 /// Appends a number in eight hexadecimal digits, in lower case.
-#[tactic(auto, unfolding(rvv_meaning::specs::Texts::hex_word))]
+#[tactic(auto, unfolding(bit_laws::specs::Digits::hex_word))]
 pub(crate) fn push_hex(line: &mut Line, value: u32)
     requires { array_string_len line.old + 8 ≤ 240 }
     ensures text { line.new.bytes ≡ line.old.bytes ++ hex_word value }

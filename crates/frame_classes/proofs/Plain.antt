@@ -1,42 +1,29 @@
 -- A plain instruction is one that the frame takes.
-use Rattle.std.proofs.Common.{◌≡◌, ℕ, ◌+◌, ◌*◌, ◌/◌, ◌^◌, ◌<◌, ◌≤◌, suc, Bool, true, false, ◌||◌, List, refl, sym, ◌∙◌, ap, arith, ◌⊎◌, inl, inr, ⊎_elim}
-use Rattle.std.proofs.lemmas.Bool.{eqb-true, eq-eqb, or_cases, false≢true}
-use Rattle.std.proofs.lemmas.Nat.{div-mul-add, mod-mul-add}
-use Rattle.std.proofs.Math.Nat.{mul-le-mul_right}
-use Rattle.bit_laws.specs.Numbers.{number}
-use Rattle.bit_laws.proofs.Numbers.{number-same, number-bits}
-use Rattle.bit_rows.specs.Slices.{Slices}
+use Rattle.std.proofs.Common.{◌≡◌, ℕ, ◌+◌, ◌*◌, ◌/◌, ◌^◌, ◌<◌, ◌≤◌, Bool, true, ◌||◌, List, refl, sym, ◌∙◌, ap, arith, ◌⊎◌, inl, inr, ⊎_elim}
+use Rattle.std.proofs.lemmas.Bool.{eqb-true, or_cases, or_left, or_right, false≢true}
+use Rattle.bit_laws.specs.Numbers.{number, low}
+use Rattle.bit_laws.proofs.Numbers.{number-lt}
 use Rattle.cam_chain.specs.Views.{registers_of}
 use Rattle.steer_net.specs.Network.{bit_in}
-use Rattle.element_ops.specs.Elements.{Registers, element_in, bits_of, byte_at, mask_bit_of}
-use Rattle.element_ops.proofs.Reading.{element-bits}
+use Rattle.element_ops.specs.Elements.{bits_of, mask_bit_of}
 use Rattle.micro_ir.specs.declared.op.MicroOp.{MicroOp}
 use Rattle.micro_ir.specs.Steps.{element}
-use Rattle.micro_ir.proofs.Lift.{element-inside}
 use Rattle.frame_laws.specs.Shapes.{Shape, Bounds, first_of, element_number}
 use Rattle.frame_laws.specs.Kinds.{Realises}
-use Rattle.frame_laws.specs.Realising.{Splatted, Realised}
-use Rattle.frame_laws.specs.Laws.{SameAt, Legal}
+use Rattle.frame_laws.specs.Realising.{Realised}
+use Rattle.frame_laws.specs.Laws.{Legal}
 use Rattle.frame_laws.specs.Bytes.{size_of}
-use Rattle.frame_laws.proofs.Elements.{bit_place, element-placed}
 use Rattle.frame_laws.proofs.Registers.{frame_law}
-use Rattle.frame_laws.proofs.Bytes.{bytes_law, are-registers_of}
-use Rattle.frame_classes.specs.Operands.{Operand, group, scalar, operand_in, operand_of, row_of, is_read, IsOperandRow, IsReadable}
-use Rattle.frame_classes.specs.Plain.{KindLaw, Operands, Value, plain_body, plain_value, IsPlain, PlainLaw, PlainBytesLaw}
+use Rattle.frame_laws.proofs.Bytes.{bytes_law}
+use Rattle.micro_ir.specs.WorkRows.{IsOperandRow}
+use Rattle.frame_classes.specs.Operands.{Operand, group, scalar, operand_in, operand_of, row_of, is_read, IsReadable}
+use Rattle.frame_classes.proofs.Operands.{IsThere, there-row, operand-here, whole-register, same-operand, same-here}
+use Rattle.frame_classes.specs.Plain.{KindLaw, Operands, Value, Kind, plain_body, plain_value, IsPlain, IsKind, PlainLaw, PlainBytesLaw}
 
--- ---- operands in the slices
-
--- what stands in an operand's row at an element is the operand there
-operand-here : (op : Operand) (i : Shape) (g k col : ℕ) (s : Slices) → 0 < i.width → 32 / i.width * i.width ≡ 32 → i.vlen ≡ 32 * s.columns → k * i.width + i.width ≤ 32 → col < s.columns
-    → IsReadable i op → Splatted i s
-    → number i.width (element i.width k col s (row_of op g)) ≡ operand_in op i.vlen i.width i.scalar (bit_in s) (element_number i g k col)
-operand-here (group r) i g k col s pos lanes long fits inside readable splatted =
-    number-same i.width _ _ (λ j below.
-    let lt : k * i.width + j < 32 = omega arith in
-    element-inside i.width k col s (r + g) j below ∙ sym (bit_place s (r + g) col (k * i.width + j) lt))
-    ∙ sym (element-placed i.width (32 / i.width) i.vlen s.columns k col (bit_in s) r g pos lanes long fits inside)
-operand-here scalar i g k col s pos lanes long fits inside readable splatted =
-    number-same i.width _ _ (λ j below. splatted readable k col j fits inside below) ∙ number-bits i.width i.scalar
+-- an operand that can be read stands in its rows
+there : (i : Shape) (op : Operand) → IsReadable i op → IsThere i op
+there i (group r) readable = readable.0
+there i scalar readable = readable
 
 -- a kind's list realises a register where it realises its value
 plain-realised : (i : Shape) (b : Bounds) (with : Operands) (value : Value) (columns g : ℕ) (body : List MicroOp) → IsPlain i with value columns
@@ -51,9 +38,9 @@ plain-realised i b with value columns g body plain real s long splatted stand k 
       active = λ h m mask.
           x.active h m mask
           ∙ rw (
-            operand-here with.a i g k col s pos lanes long fits inside plain.a splatted,
-            operand-here with.b i g k col s pos lanes long fits inside plain.b splatted,
-            operand-here with.addend i g k col s pos lanes long fits inside plain.addend splatted,
+            operand-here with.a i g k col s pos lanes long fits inside (there i with.a plain.a) splatted,
+            operand-here with.b i g k col s pos lanes long fits inside (there i with.b plain.b) splatted,
+            operand-here with.addend i g k col s pos lanes long fits inside (there i with.addend plain.addend) splatted,
             plain.result (bit_in s) (element_number i g k col) m,
           ) refl;
       idle = x.idle;
@@ -73,41 +60,15 @@ read-safe i (group x) g r room h l t =
     )
 read-safe i scalar g r room h l t = absurd (false≢true t)
 
--- where bit j of element p of register g of a group lies
-group-place : (w per vlen g p j : ℕ) → per * w ≡ vlen → p < per → j < w → ((g * per + p) * w + j ≡ g * vlen + (p * w + j)) × (p * w + j < vlen)
-group-place w per vlen g p j long inside below =
-    let m : suc p * w ≤ per * w = mul-le-mul_right w inside in
-    (rw (← long) (omega arith), omega arith)
-
--- an operand depends on the registers alone that are read
-same-operand : (i : Shape) (op : Operand) (g p : ℕ) (u v : Registers) → i.vlen / i.width * i.width ≡ i.vlen → p < i.vlen / i.width → SameAt (is_read op g) i.vlen u v
-    → operand_in op i.vlen i.width i.scalar u (first_of i g + p) ≡ operand_in op i.vlen i.width i.scalar v (first_of i g + p)
-unfolding element_in
-same-operand i (group r) g p u v per inside same =
-    number-same i.width _ _ (λ j below.
-    let at = group-place i.width (i.vlen / i.width) i.vlen g p j per inside below in
-    rw (at.0, div-mul-add g i.vlen (p * i.width + j) at.1, mod-mul-add g i.vlen (p * i.width + j) at.1) (same (r + g) (p * i.width + j) (eq-eqb (r + g) (r + g) refl) at.1))
-same-operand i scalar g p u v per inside same = refl
-
 -- a register is read for one of the operands
 reads : Operands → (g r : ℕ) → Bool
 reads with g r = is_read with.a g r || (is_read with.b g r || is_read with.addend g r)
 
-left : (a b : Bool) → a ≡ true → (a || b) ≡ true
-left a b h = rw h refl
-
-right : (a b : Bool) → b ≡ true → (a || b) ≡ true
-right true b h = refl
-right false b h = h
-
 plain-legal : (i : Shape) (with : Operands) (value : Value) (columns : ℕ) → IsPlain i with value columns → Legal i (reads with) columns
 unfolding reads
 plain-legal i with value columns plain =
-    let n = 32 / i.width in
     let f = plain.framed in
-    let long : i.vlen ≡ columns * n * i.width + 0 = f.vlen ∙ omega (arith, ap (λ x. columns * x) f.lanes) in
-    let q : i.vlen / i.width ≡ columns * n = rw long (div-mul-add (columns * n) i.width 0 f.width) in
-    let per : i.vlen / i.width * i.width ≡ i.vlen = rw q (omega arith) in
+    let per : i.vlen / i.width * i.width ≡ i.vlen = whole-register i.width i.vlen columns f.width f.lanes f.vlen in
     record {
       framed = f;
       sources = λ g r l t.
@@ -122,9 +83,9 @@ plain-legal i with value columns plain =
       reads_only = λ g u v p c l below same.
           plain.result u (first_of i g + p) c
           ∙ rw (
-            same-operand i with.a g p u v per below (λ r at x h. same r at (left (is_read with.a g r) _ x) h),
-            same-operand i with.b g p u v per below (λ r at x h. same r at (right (is_read with.a g r) _ (left (is_read with.b g r) _ x)) h),
-            same-operand i with.addend g p u v per below (λ r at x h. same r at (right (is_read with.a g r) _ (right (is_read with.b g r) _ x)) h),
+            same-operand i with.a g p u v per below (λ r at x h. same r at (or_left (is_read with.a g r) _ x) h),
+            same-operand i with.b g p u v per below (λ r at x h. same r at (or_right (is_read with.a g r) _ (or_left (is_read with.b g r) _ x)) h),
+            same-operand i with.addend g p u v per below (λ r at x h. same r at (or_right (is_read with.a g r) _ (or_right (is_read with.b g r) _ x)) h),
           ) (sym (plain.result v (first_of i g + p) c));
     }
 
@@ -135,20 +96,11 @@ plain_law i b with value kind v s plain bounded real holds =
     frame_law i b (reads with) (plain_body i with kind) v s (plain-legal i with value s.columns plain) bounded
     (λ g l. plain-realised i b with value s.columns g (plain_body i with kind g) plain (real g l)) holds
 
--- an operand is the same in registers that are bits and in those that are bytes
-same-value : (op : Operand) (size w x : ℕ) (v : List (List ℕ)) (e : ℕ) → 0 < size → 8 * (w / 8) ≡ w → ((q j : ℕ) → byte_at v q j < 2 ^ 8) → operand_in op (8 * size) w x (bits_of v) e ≡ operand_of op size w x v e
-same-value (group r) size w x v e pos whole bytes = sym (element-bits size v r w e pos bytes whole)
-same-value scalar size w x v e pos whole bytes = refl
-
 pub plain_bytes_law : PlainBytesLaw
 plain_bytes_law i b with value kind s plain bounded real some whole =
     let v = registers_of s in
-    let size = size_of i in
-    let vlen : i.vlen ≡ 32 * s.columns = plain.framed.vlen in
-    let long : 8 * size ≡ i.vlen = omega arith in
-    let bytes : (q j : ℕ) → byte_at v q j < 2 ^ 8 = (are-registers_of s).bytes in
-    let same : (op : Operand) (e : ℕ) → operand_in op i.vlen i.width i.scalar (bits_of v) e ≡ operand_of op size i.width i.scalar v e =
-    λ op e. ap (λ (n : ℕ). operand_in op n i.width i.scalar (bits_of v) e) (sym long) ∙ same-value op size i.width i.scalar v e (omega arith) whole bytes in
+    let same : (op : Operand) (e : ℕ) → operand_in op i.vlen i.width i.scalar (bits_of v) e ≡ operand_of op (size_of i) i.width i.scalar v e =
+    λ op e. same-here i op s e plain.framed.vlen some whole in
     bytes_law i b (reads with) (plain_body i with kind) (plain_value i with value v) s (plain-legal i with value s.columns plain) bounded
     (λ g l. plain-realised i b with value s.columns g (plain_body i with kind g) plain (real g l)) some whole
     (λ e. plain.result (bits_of v) e (mask_bit_of v 0 e) ∙ rw (same with.a e, same with.b e, same with.addend e) refl)
@@ -156,11 +108,24 @@ plain_bytes_law i b with value kind s plain bounded real some whole =
 -- ---- kinds
 
 pub operand-row : (i : Shape) (op : Operand) (g : ℕ) → IsReadable i op → g < i.registers → IsOperandRow (row_of op g)
-operand-row i (group r) g readable below = let room : r + i.registers ≤ 32 = readable.0 in inl (omega arith)
-operand-row i scalar g readable below = inr refl
+operand-row i op g readable below = there-row i op g (there i op readable) below
 
 pub kind_law : KindLaw
 kind_law i with value kind columns plain is g below =
     let room = plain.framed.room in
     is (row_of with.a g) (row_of with.b g) (row_of with.addend g) (i.vd + g)
     (operand-row i with.a g plain.a below) (operand-row i with.b g plain.b below) (operand-row i with.addend g plain.addend below) (omega arith)
+
+-- A list realises each value that is the same for operands of w bits.
+pub kind-same : (w : ℕ) (reads : Bool) (u v : Value) (kind : Kind) → ((a b addend : ℕ) (m : Bool) → a < 2 ^ w → b < 2 ^ w → addend < 2 ^ w → u a b addend m ≡ v a b addend m)
+    → IsKind w reads u kind → IsKind w reads v kind
+unfolding Realises
+kind-same w reads u v kind same is a b addend to ra rb rc rt s k col fits inside =
+    let x = is a b addend to ra rb rc rt s k col fits inside in
+    let n : ℕ → ℕ = λ r. number w (element w k col s r) in
+    let below : (r : ℕ) → n r < 2 ^ w = λ r. number-lt w (element w k col s r) in
+    record {
+      active = λ h m mask. x.active h m mask ∙ ap (low w) (same (n a) (n b) (n addend) m (below a) (below b) (below addend));
+      idle = x.idle;
+      kept = x.kept;
+    }

@@ -1,11 +1,11 @@
--- Operands of an instruction that writes a group of elements.
-use Rattle.std.specs.Prelude.{◌≡◌, ℕ, ◌+◌, ◌<◌, ◌≤◌, Bool, true, false, eqb, ◌⊎◌, List}
+-- Operands of an instruction that writes a group of elements, or a mask.
+use Rattle.std.specs.Prelude.{◌≡◌, ℕ, ◌+◌, ◌≤◌, Bool, true, false, eqb, ◌⊎◌, List}
 use Rattle.bit_laws.specs.Numbers.{low}
 use Rattle.element_ops.specs.Elements.{Registers, element_in, element_of}
-use Rattle.frame_laws.specs.WorkRows.{scalar_row}
+use Rattle.micro_ir.specs.WorkRows.{scalar_row}
 use Rattle.frame_laws.specs.Shapes.{Shape}
 
--- the group of registers from r on, whose elements are as wide as those of the destination; or the scalar
+-- the group of registers from r on, whose elements have the width of the shape; or the scalar
 pub data Operand : Type 0 where
   group : (r : ℕ) → Operand
   scalar : Operand
@@ -20,16 +20,12 @@ abbrev pub operand_of : Operand → (size w x : ℕ) → List (List ℕ) → ℕ
 operand_of (group r) size w x v e = element_of size v r w e
 operand_of scalar size w x v e = low w x
 
--- the row that holds it, for register g of the destination
+-- the row that holds it, for register g of the groups
 abbrev pub row_of : Operand → (g : ℕ) → ℕ
 row_of (group r) g = r + g
 row_of scalar g = scalar_row
 
--- a row that may hold an operand: a register, or that of the scalar
-abbrev pub IsOperandRow : ℕ → Type 0
-IsOperandRow r = (r < 32) ⊎ (r ≡ scalar_row)
-
--- whether register r is read for register g of the destination
+-- whether register r is read for register g of the groups
 abbrev pub is_read : Operand → (g r : ℕ) → Bool
 is_read (group x) g r = eqb r (x + g)
 is_read scalar g r = false

@@ -12,7 +12,8 @@ use Rattle.frame_laws.specs.Meaning.{after}
 use Rattle.frame_laws.specs.Kinds.{Realises}
 use Rattle.frame_laws.specs.Laws.{Framed, Holds}
 use Rattle.frame_laws.specs.Bytes.{size_of, registers_after}
-use Rattle.frame_classes.specs.Operands.{Operand, operand_in, operand_of, row_of, IsOperandRow, IsReadable}
+use Rattle.micro_ir.specs.WorkRows.{IsOperandRow}
+use Rattle.frame_classes.specs.Operands.{Operand, operand_in, operand_of, row_of, IsReadable}
 
 -- the operands: a, b and, where a kind has a third, the addend
 pub record Operands : Type 0 where

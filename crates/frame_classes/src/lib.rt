@@ -4,6 +4,7 @@
 #![tactic(auto)]
 
 ghost use Rattle.frame_classes.specs.Plain.{PlainLaw, PlainBytesLaw, KindLaw};
+ghost use Rattle.frame_classes.specs.Masks.{ComparedBytesLaw};
 
 /// The program of a plain instruction leaves the registers of its meaning.
 pub fn plain_law()
@@ -18,4 +19,9 @@ pub fn plain_bytes_law()
 /// The list of a kind serves every register of a plain instruction.
 pub fn kind_law()
     ensures law { KindLaw }
+{}
+
+/// The program of an instruction that makes a mask from two operands leaves the registers of its meaning.
+pub fn compared_bytes_law()
+    ensures law { ComparedBytesLaw }
 {}

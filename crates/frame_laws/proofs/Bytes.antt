@@ -179,7 +179,7 @@ outcome-small i z old tail one small = rw one (chosen (i.ones && i.tail) old sma
     chosen false x below = below
 
 -- an element of one bit
-one-bit : (vlen : ℕ) (v : Registers) (r e : ℕ) → e < vlen → element_in vlen v r 1 e ≡ from_bool (v r e)
+pub one-bit : (vlen : ℕ) (v : Registers) (r e : ℕ) → e < vlen → element_in vlen v r 1 e ≡ from_bool (v r e)
 unfolding element_in
 one-bit vlen v r e below =
     let place : e * 1 + 0 ≡ e = omega arith in
@@ -220,11 +220,12 @@ bit-small : (i : Shape) (value : ℕ → ℕ) (v : List (List ℕ)) (e : ℕ) �
 unfolding bit_of_after
 bit-small i value v e one = outcome-small i (value e) (from_bool (mask_bit_of v i.vd e)) (place_in i (mask_bit_of v 0) e) one (from_bool-small (mask_bit_of v i.vd e))
 
-not_in_one : (d n r : ℕ) → n ≡ 1 → r ≢ d → (leb d r && ltb r (d + n)) ≡ false
+-- registers other than the one of a group of one
+pub not_in_one : (d n r : ℕ) → n ≡ 1 → r ≢ d → (leb d r && ltb r (d + n)) ≡ false
 not_in_one d n r one other = grind (arith, nat_tests)
 
 -- a bit of the registers after an instruction whose elements are bits of vd
-after-mask : (i : Shape) (value : ℕ → ℕ) (v : List (List ℕ)) (r k : ℕ) → i.width ≡ 1 → i.registers ≡ 1 → k < i.vlen → i.result (bits_of v) k (mask_bit_of v 0 k) ≡ value k
+pub after-mask : (i : Shape) (value : ℕ → ℕ) (v : List (List ℕ)) (r k : ℕ) → i.width ≡ 1 → i.registers ≡ 1 → k < i.vlen → i.result (bits_of v) k (mask_bit_of v 0 k) ≡ value k
     → after i (bits_of v) r k ≡ cond (eqb r i.vd) (eqb (bit_of_after i value v k) 1) (bits_of v r k)
 unfolding written with_elements_in
 after-mask i value v r k one single inside result =

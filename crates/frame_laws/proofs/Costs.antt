@@ -11,7 +11,7 @@ use Rattle.micro_ir.specs.Replay.{AllInRange, counts_and, tally}
 use Rattle.micro_ir.specs.Steps.{micros}
 use Rattle.micro_ir.proofs.Lists.{tally-append, no_counts-and, AllInRange-append, AllInRange-none}
 use Rattle.micro_ir.proofs.StepLists.{tally-micros, length-micros, AllInRange-micros}
-use Rattle.frame_laws.specs.WorkRows.{mask_row, free_row}
+use Rattle.micro_ir.specs.WorkRows.{mask_row, free_row}
 use Rattle.frame_laws.specs.Pieces.{splat, fill_step}
 use Rattle.frame_laws.specs.Shapes.{Shape, Bounds, first_of}
 use Rattle.frame_laws.specs.Programs.{mask_window, fill, one_register, first_registers, splat_program, program}
@@ -20,7 +20,8 @@ use Rattle.frame_laws.specs.Costs.{counts_times, splat_counts, fill_counts, regi
 
 -- ---- counts
 
-tally-splat : (i : Shape) → tally (splat_program i) ≡ splat_counts i
+-- the counts of the scalar's steps
+pub tally-splat : (i : Shape) → tally (splat_program i) ≡ splat_counts i
 unfolding tally splat
 tally-splat i =
     elim i.splat as (λ x. tally (cond x (micros i.width (splat i.width i.scalar)) []) ≡ cond x (record { searches = 2; updates = 2; passes = 0 }) no_counts) [
@@ -37,7 +38,8 @@ tally-fill i b g =
       | false ↦ refl
     ]
 
-tally-mask_window : (i : Shape) (b : Bounds) (g : ℕ) → tally (mask_window i b g) ≡ no_counts
+-- a window counts nothing
+pub tally-mask_window : (i : Shape) (b : Bounds) (g : ℕ) → tally (mask_window i b g) ≡ no_counts
 unfolding tally
 tally-mask_window i b g =
     elim i.reads as (λ x. tally (cond x (Window mask_row i.width (first_of i g) b.from i.len true ∷ []) []) ≡ no_counts) [
@@ -67,14 +69,15 @@ tally_law i b body =
     tally-append (splat_program i) (first_registers i b body i.registers)
     ∙ rw (tally-splat i, tally-first i b body i.registers) refl
 
-times-suc : (n : ℕ) (c : Counts) → counts_and (counts_times n c) c ≡ counts_times (suc n) c
+-- the counts of one more, and of none
+pub times-suc : (n : ℕ) (c : Counts) → counts_and (counts_times n c) c ≡ counts_times (suc n) c
 times-suc n c =
     let s : n * c.searches + c.searches ≡ suc n * c.searches = omega arith in
     let u : n * c.updates + c.updates ≡ suc n * c.updates = omega arith in
     let p : n * c.passes + c.passes ≡ suc n * c.passes = omega arith in
     λ i. record { searches = s i; updates = u i; passes = p i }
 
-times-zero : (c : Counts) → no_counts ≡ counts_times 0 c
+pub times-zero : (c : Counts) → no_counts ≡ counts_times 0 c
 times-zero c =
     let s : 0 ≡ 0 * c.searches = omega arith in
     let u : 0 ≡ 0 * c.updates = omega arith in
@@ -92,7 +95,8 @@ even_tally_law i b body c same = tally_law i b body ∙ ap (counts_and (splat_co
 
 -- ---- lengths
 
-length-splat : (i : Shape) → length (splat_program i) ≡ cond i.splat 4 0
+-- the length of the scalar's steps
+pub length-splat : (i : Shape) → length (splat_program i) ≡ cond i.splat 4 0
 unfolding splat
 length-splat i =
     elim i.splat as (λ x. length (cond x (micros i.width (splat i.width i.scalar)) []) ≡ cond x 4 0) [

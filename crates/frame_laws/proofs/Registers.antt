@@ -13,7 +13,7 @@ use Rattle.micro_ir.specs.Replay.{effect, replay}
 use Rattle.micro_ir.specs.Steps.{element, micros}
 use Rattle.micro_ir.proofs.Lists.{replay-append}
 use Rattle.micro_ir.proofs.Lift.{replay-columns, micros-element, element-inside}
-use Rattle.frame_laws.specs.WorkRows.{scalar_row}
+use Rattle.micro_ir.specs.WorkRows.{scalar_row}
 use Rattle.frame_laws.specs.Pieces.{splat}
 use Rattle.frame_laws.specs.Shapes.{Shape, Bounds, Bounded, element_number}
 use Rattle.frame_laws.specs.Programs.{active_window, mask_window, fill, one_register, first_registers, program}

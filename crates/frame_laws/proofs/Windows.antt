@@ -7,13 +7,13 @@ use Rattle.micro_ir.specs.declared.op.MicroOp.TheVariants.{Window, Free}
 use Rattle.micro_ir.specs.Replay.{effect, replay}
 use Rattle.micro_ir.specs.Steps.{element, fires, steps_on, micros}
 use Rattle.micro_ir.proofs.Lift.{replay-columns, micros-element}
-use Rattle.frame_laws.specs.WorkRows.{active_row, mask_row, scalar_row, free_row}
+use Rattle.micro_ir.specs.WorkRows.{active_row, mask_row, scalar_row, free_row}
 use Rattle.frame_laws.specs.Pieces.{fill_step}
 use Rattle.frame_laws.specs.Shapes.{Shape, Bounds, first_of, element_number}
 use Rattle.frame_laws.specs.Programs.{active_window, mask_window, fill}
 use Rattle.frame_laws.specs.Realising.{Windowed}
 use Rattle.frame_laws.proofs.Elements.{numbered-element}
-use Rattle.frame_laws.proofs.OneElement.{step-row, everywhere-here, everywhere-fits}
+use Rattle.micro_ir.proofs.OneElement.{step-row, everywhere-here, everywhere-fits}
 
 -- ---- small facts of tests
 
@@ -113,11 +113,13 @@ windows-stand i b g s =
 
 -- ---- the fill
 
-filled : (b o : Bool) → cond (fires (0 ∷ []) (1 ∷ []) (λ r. b)) true o ≡ cond b true o
+-- what the fill makes of a bit, by the bit of the row of free elements
+pub filled : (b o : Bool) → cond (fires (0 ∷ []) (1 ∷ []) (λ r. b)) true o ≡ cond b true o
 filled true o = refl
 filled false o = refl
 
-nothing : (a o : Bool) → o ≡ cond (a && false) true o
+-- and without a fill
+pub nothing : (a o : Bool) → o ≡ cond (a && false) true o
 nothing true o = refl
 nothing false o = refl
 

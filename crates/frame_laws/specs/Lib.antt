@@ -1,6 +1,5 @@
 -- The frame of vector instructions: the operations that stand round what computes a result, what they make of the
 -- registers, and the laws of it.
-pub mod WorkRows
 pub mod Pieces
 pub mod Shapes
 pub mod Programs

@@ -3,7 +3,7 @@ use Rattle.std.specs.Prelude.{ℕ, ◌+◌, true, cond, ◌&&◌, zero, suc, Lis
 use Rattle.micro_ir.specs.declared.op.MicroOp.{MicroOp}
 use Rattle.micro_ir.specs.declared.op.MicroOp.TheVariants.{Window, Free}
 use Rattle.micro_ir.specs.Steps.{micros}
-use Rattle.frame_laws.specs.WorkRows.{active_row, mask_row, free_row}
+use Rattle.micro_ir.specs.WorkRows.{active_row, mask_row, free_row}
 use Rattle.frame_laws.specs.Pieces.{splat, fill_step}
 use Rattle.frame_laws.specs.Shapes.{Shape, Bounds, first_of}
 

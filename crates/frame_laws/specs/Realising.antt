@@ -6,7 +6,7 @@ use Rattle.steer_net.specs.Network.{bit_in, is_within}
 use Rattle.micro_ir.specs.declared.op.MicroOp.{MicroOp}
 use Rattle.micro_ir.specs.Replay.{replay}
 use Rattle.micro_ir.specs.Steps.{element}
-use Rattle.frame_laws.specs.WorkRows.{active_row, mask_row, scalar_row}
+use Rattle.micro_ir.specs.WorkRows.{active_row, mask_row, scalar_row}
 use Rattle.frame_laws.specs.Shapes.{Shape, Bounds, element_number}
 
 -- each element of the scalar row is the scalar, where the instruction has one

@@ -1,3 +1,4 @@
 -- The proofs of the laws of instructions in the frame.
 pub mod Meaning
 pub mod Instructions
+pub mod Masks

@@ -1,5 +1,5 @@
 -- What the programs of instructions cost, how long they are, and that a chain can run them.
-use Rattle.std.specs.Prelude.{◌≡◌, ℕ, ◌+◌, ◌*◌, ◌<◌, cond, List, length}
+use Rattle.std.specs.Prelude.{◌≡◌, ℕ, ◌+◌, ◌*◌, ◌<◌, Bool, false, cond, List, length}
 use Rattle.bit_rows.specs.Slices.{Slices}
 use Rattle.cam_chain.specs.ChainValue.{no_counts}
 use Rattle.cam_chain.specs.declared.counts.Counts.{Counts}
@@ -8,12 +8,14 @@ use Rattle.micro_ir.specs.Replay.{AllInRange, counts_and, tally}
 use Rattle.rvv_decode.specs.declared.instruction.VInstr.{VInstr}
 use Rattle.vtype_cfg.specs.declared.configuration.Cfg.{Cfg}
 use Rattle.vtype_cfg.specs.Classes.{Class, plain, move, class_of}
+use Rattle.element_ops.specs.Values.{vmv}
 use Rattle.rvv_meaning.specs.Elementwise.{is_ones}
+use Rattle.rvv_meaning.specs.Arithmetic.{Operation, number_of, reads_mask}
 use Rattle.legal_groups.specs.Facts.{group_count}
 use Rattle.frame_laws.specs.Costs.{counts_times}
-use Rattle.frame_classes.specs.Operands.{IsOperandRow}
-use Rattle.frame_classes.specs.Plain.{Operands, Kind}
-use Rattle.frame_meaning.specs.Shapes.{has_scalar, plain_operands, move_operands, two_operand_program}
+use Rattle.micro_ir.specs.WorkRows.{IsOperandRow}
+use Rattle.frame_classes.specs.Plain.{Operands, Value, Kind}
+use Rattle.frame_meaning.specs.Shapes.{has_scalar, plain_operands, reversed_operands, move_operands, straight_value, reversed_value, two_operand_program}
 use Rattle.frame_meaning.specs.Laws.{Runs}
 
 -- A kind's lists count alike and are equally long wherever they stand, and a chain of any number of columns can run them.
@@ -29,24 +31,28 @@ cost_of i c each =
     counts_and (cond (has_scalar i.form) (record { searches = 2; updates = 2; passes = 0 }) no_counts)
     (counts_times (group_count c.vtype) (counts_and each (cond (is_ones c.policy) (record { searches = 1; updates = 1; passes = 0 }) no_counts)))
 
--- the number of its operations, where the list of a register has so many
-unfoldable pub length_of : VInstr → Cfg → (long : ℕ) → ℕ
-length_of i c long = cond (has_scalar i.form) 4 0 + group_count c.vtype * (1 + cond (is_ones c.policy) 3 0 + long)
+-- The number of its operations, where the list of a register has so many: one marks the active elements of a register, one
+-- more lays out their mask bits where the mask is an operand, and three fill its free elements.
+unfoldable pub length_of : VInstr → Cfg → (reads : Bool) → (long : ℕ) → ℕ
+length_of i c reads long = cond (has_scalar i.form) 4 0 + group_count c.vtype * (1 + cond reads 1 0 + cond (is_ones c.policy) 3 0 + long)
 
 -- the program of an instruction that can run on the slices
-pub record Measured (i : VInstr) (c : Cfg) (s : Slices) (each : Counts) (long : ℕ) (ops : List MicroOp) : Type 0 where
+pub record Measured (i : VInstr) (c : Cfg) (s : Slices) (reads : Bool) (each : Counts) (long : ℕ) (ops : List MicroOp) : Type 0 where
   pub cost : tally ops ≡ cost_of i c each
-  pub count : length ops ≡ length_of i c long
+  pub count : length ops ≡ length_of i c reads long
   pub range : AllInRange s.columns ops
 
-abbrev pub Costs : Class → (VInstr → Operands) → (value : (w a b : ℕ) → ℕ) → Type 0
-Costs class operands value =
+abbrev pub Costs : Class → (VInstr → Operands) → (VInstr → Cfg → Operation → Value) → Operation → Type 0
+Costs class operands value o =
     (i : VInstr) (c : Cfg) (x : ℕ) (kind : Kind) (s : Slices) (each : Counts) (long : ℕ)
     → Runs i c s → class_of i.op ≡ class → KindCosts kind each long
-    → Measured i c s each long (two_operand_program i c x (operands i) value kind)
+    → Measured i c s (reads_mask i o) each long (two_operand_program i c x (operands i) o (value i c o) kind)
 
 abbrev pub PlainCostLaw : Type 0
-PlainCostLaw = (value : (w a b : ℕ) → ℕ) → Costs plain plain_operands value
+PlainCostLaw = (o : Operation) → o.makes_mask ≡ false → Costs plain plain_operands straight_value o
+
+abbrev pub ReversedCostLaw : Type 0
+ReversedCostLaw = (o : Operation) → o.makes_mask ≡ false → Costs plain reversed_operands reversed_value o
 
 abbrev pub MoveCostLaw : Type 0
-MoveCostLaw = Costs move move_operands (λ w a b. b)
+MoveCostLaw = Costs move move_operands straight_value (number_of vmv)

@@ -1,63 +1,23 @@
 -- The lists that choose one of two rows realise it.
-use Rattle.std.proofs.Common.{◌≡◌, ◌≢◌, ℕ, ◌+◌, ◌-◌, ◌<◌, ◌≤◌, Bool, true, false, cond, not, ltb, List, [], ◌∷◌, ◌++◌, zero, suc, refl, sym, ◌∙◌, ap, arith, ⊎_elim}
-use Rattle.std.proofs.lemmas.Bool.{cases_lt}
+use Rattle.std.proofs.Common.{◌≡◌, ◌≢◌, ℕ, ◌-◌, ◌<◌, Bool, true, false, cond, not, ltb, int_lt, List, [], ◌∷◌, ◌++◌, zero, suc, refl, ◌∙◌, ap, arith}
 use Rattle.bit_laws.specs.Numbers.{number, low}
 use Rattle.bit_laws.proofs.Numbers.{number-lt, number-same}
 use Rattle.micro_ir.specs.Steps.{Step, fires, step_on, steps_on, AllFit}
 use Rattle.micro_ir.proofs.StepLists.{steps_on-append, AllFit-append}
-use Rattle.frame_laws.specs.WorkRows.{result_row}
-use Rattle.frame_laws.specs.Pieces.{everywhere, clear, commit}
+use Rattle.micro_ir.specs.WorkRows.{result_row}
+use Rattle.micro_ir.specs.Pieces.{everywhere, clear, commit}
 use Rattle.frame_laws.specs.Kinds.{Writes}
-use Rattle.frame_laws.proofs.OneElement.{hit, fires-hit, step-row, clear-here, everywhere-here, everywhere-fits, commit-fits}
-use Rattle.gen_arith.specs.Recipes.{carry_row, truth_row, below, operands, values_of, Compare, truth_steps, downs, first_on, second_on, choice_steps, ltu, lt}
-use Rattle.gen_arith.specs.Truths.{biased}
+use Rattle.micro_ir.proofs.OneElement.{fires-hit, step-row, clear-here, everywhere-here, everywhere-fits, commit-fits}
+use Rattle.micro_ir.specs.WorkRows.{carry_row, truth_row}
+use Rattle.micro_ir.specs.Pieces.{downs}
+use Rattle.gen_arith.specs.Recipes.{operands, values_of, Compare, truth_steps, first_on, second_on, choice_steps, ltu, lt}
+use Rattle.element_ops.specs.Values.{signed}
 use Rattle.gen_arith.specs.Laws.{Apart, ChoiceNumbers}
-use Rattle.gen_arith.proofs.Ripple.{or_no, below-here, below-else, below-fits}
+use Rattle.micro_ir.proofs.Effects.{downs-row, downs-here, downs-fit}
 use Rattle.gen_arith.proofs.Rows.{finds, Folds, folds, found}
 use Rattle.gen_arith.proofs.Numbers.{low-top}
-use Rattle.gen_arith.proofs.Sums.{commit-writes, lifted, mask_in, most_not-folds}
+use Rattle.gen_arith.proofs.Sums.{commit-writes, lifted, most_not-folds}
 use Rattle.gen_arith.proofs.Truths.{truth_of, told, truth-fits, ltu-is, lt-is, borrow-folds}
-
--- ---- a bit into those below it
-
--- the places from the bit on stay
-downs-above : (row n : ℕ) (e : ℕ → ℕ → Bool) (r j : ℕ) → n ≤ j → steps_on (downs row n) e r j ≡ e r j
-unfolding steps_on downs
-downs-above row zero e r j high = refl
-downs-above row (suc n) e r j high =
-    let one = below (row ∷ []) (1 ∷ []) row (suc n) 1 in
-    downs-above row n (step_on one e) r j (omega arith) ∙ below-else (row ∷ []) (1 ∷ []) row (suc n) 1 e r j (omega arith)
-
-downs-row : (row n : ℕ) (e : ℕ → ℕ → Bool) (r j : ℕ) → r ≢ row → steps_on (downs row n) e r j ≡ e r j
-unfolding steps_on downs
-downs-row row zero e r j other = refl
-downs-row row (suc n) e r j other =
-    let one = below (row ∷ []) (1 ∷ []) row (suc n) 1 in
-    downs-row row n (step_on one e) r j other ∙ step-row one e r j other
-
--- from clear places below it
-pub downs-here : (row n : ℕ) (e : ℕ → ℕ → Bool) → ((j : ℕ) → j < n → e row j ≡ false) → (j : ℕ) → j ≤ n → steps_on (downs row n) e row j ≡ e row n
-unfolding steps_on downs
-downs-here row zero e clear j low = let z : j ≡ 0 = omega arith in rw z refl
-downs-here row (suc n) e clear j low =
-    let one = below (row ∷ []) (1 ∷ []) row (suc n) 1 in
-    let e1 = step_on one e in
-    let z : suc n ≡ n + 1 = omega arith in
-    let next : e1 row n ≡ e row (suc n) =
-    ap (λ (k : ℕ). step_on (below (row ∷ []) (1 ∷ []) row k 1) e row n) z
-    ∙ below-here (row ∷ []) (1 ∷ []) row n 1 e
-    ∙ rw (clear n (omega arith), fires-hit (row ∷ []) (1 ∷ []) (λ r. e r (n + 1))) (or_no (hit (1 ∷ []) (e row (n + 1) ∷ [])) ∙ mask_in (e row (n + 1)) ∙ ap (e row) (sym z)) in
-    let still : (i : ℕ) → i < n → e1 row i ≡ false = λ i l. below-else (row ∷ []) (1 ∷ []) row (suc n) 1 e row i (omega arith) ∙ clear i (omega arith) in
-    ⊎_elim
-    (λ (l : j < suc n). downs-here row n e1 still j (omega arith) ∙ next)
-    (λ (l : suc n ≤ j). let q : j ≡ suc n = omega arith in
-    downs-above row n e1 row j (omega arith) ∙ below-else (row ∷ []) (1 ∷ []) row (suc n) 1 e row j (omega arith) ∙ ap (e row) q)
-    (cases_lt j (suc n))
-
-downs-fit : (w row n : ℕ) → n < w → AllFit w (downs row n)
-unfolding downs
-downs-fit w row zero inside = tt
-downs-fit w row (suc n) inside = (below-fits w (row ∷ []) (1 ∷ []) row (suc n) 1 (omega arith) inside, downs-fit w row n (omega arith))
 
 -- ---- the choice
 
@@ -172,10 +132,10 @@ pub maxu-numbers : ChoiceNumbers ltu second_on (λ w a b. cond (ltb a b) b a)
 maxu-numbers = choice-realises ltu second_on not (λ w a b. cond (ltb a b) b a) tt borrow-folds borrow-folds second-folds second-picks
     (λ n a b e. turned (truth_of ltu n a b e) (number (suc n) (e a)) (number (suc n) (e b)) ∙ ap (λ c. cond c (number (suc n) (e b)) (number (suc n) (e a))) (ltu-is n a b e))
 
-pub min-numbers : ChoiceNumbers lt first_on (λ w a b. cond (ltb (biased w a) (biased w b)) a b)
-min-numbers = choice-realises lt first_on (λ c. c) (λ w a b. cond (ltb (biased w a) (biased w b)) a b) tt borrow-folds most_not-folds first-folds first-picks
+pub min-numbers : ChoiceNumbers lt first_on (λ w a b. cond (int_lt (signed w a) (signed w b)) a b)
+min-numbers = choice-realises lt first_on (λ c. c) (λ w a b. cond (int_lt (signed w a) (signed w b)) a b) tt borrow-folds most_not-folds first-folds first-picks
     (λ n a b e. ap (λ c. cond c (number (suc n) (e a)) (number (suc n) (e b))) (lt-is n a b e))
 
-pub max-numbers : ChoiceNumbers lt second_on (λ w a b. cond (ltb (biased w a) (biased w b)) b a)
-max-numbers = choice-realises lt second_on not (λ w a b. cond (ltb (biased w a) (biased w b)) b a) tt borrow-folds most_not-folds second-folds second-picks
+pub max-numbers : ChoiceNumbers lt second_on (λ w a b. cond (int_lt (signed w a) (signed w b)) b a)
+max-numbers = choice-realises lt second_on not (λ w a b. cond (int_lt (signed w a) (signed w b)) b a) tt borrow-folds most_not-folds second-folds second-picks
     (λ n a b e. turned (truth_of lt n a b e) (number (suc n) (e a)) (number (suc n) (e b)) ∙ ap (λ c. cond c (number (suc n) (e b)) (number (suc n) (e a))) (lt-is n a b e))

@@ -6,9 +6,12 @@ use Rattle.cam_chain.specs.declared.counts.Counts.{Counts}
 use Rattle.micro_ir.specs.Replay.{counts_and}
 use Rattle.micro_ir.specs.Steps.{Step, micros}
 use Rattle.micro_ir.proofs.StepLists.{RowsFit, pass_length, counts_from, length_from, step_counts, steps_counts, steps_counts-append, tally-micros, steps_length, length-micros, AllInRange-micros}
-use Rattle.frame_laws.specs.WorkRows.{result_row}
-use Rattle.frame_laws.specs.Pieces.{everywhere, clear, commit}
-use Rattle.gen_arith.specs.Recipes.{carry_row, truth_row, above, once, operands, values_of, digit, ripple, Sum, sum_steps, add, sub, adc, sbc, Compare, truth_steps, madc, madc_in, msbc, msbc_in, eq, ne, ltu, lt, leu, le, gtu, gt, downs, first_on, second_on, choice_steps}
+use Rattle.micro_ir.proofs.Effects.{downs-counts}
+use Rattle.micro_ir.specs.WorkRows.{result_row}
+use Rattle.micro_ir.specs.Pieces.{everywhere, clear, commit}
+use Rattle.micro_ir.specs.WorkRows.{carry_row, truth_row}
+use Rattle.micro_ir.specs.Pieces.{above, downs}
+use Rattle.gen_arith.specs.Recipes.{once, operands, values_of, digit, ripple, Sum, sum_steps, add, sub, adc, sbc, Compare, truth_steps, madc, madc_in, msbc, msbc_in, eq, ne, ltu, lt, leu, le, gtu, gt, first_on, second_on, choice_steps}
 use Rattle.gen_arith.specs.Laws.{counts, Measured, SumMeasured, TruthMeasured, ChoiceMeasured}
 
 pub counts-same : (a b c x y z : ℕ) → a ≡ x → b ≡ y → c ≡ z → counts a b c ≡ counts x y z
@@ -273,11 +276,6 @@ downs-near : (row n : ℕ) → row < 64 → Near (downs row n)
 unfolding downs
 downs-near row zero h = tt
 downs-near row (suc n) h = (h, omega arith, downs-near row n h)
-
-downs-counts : (row n : ℕ) → steps_counts (downs row n) ≡ counts n n n
-unfolding downs
-downs-counts row zero = refl
-downs-counts row (suc n) = rw (downs-counts row n) (counts-same _ _ _ _ _ _ (omega arith) (omega arith) (omega arith))
 
 choice-near : (k : Compare) (on : List ℕ) (w a b to : ℕ) → to < 32 → Near (choice_steps k on w a b to)
 unfolding choice_steps

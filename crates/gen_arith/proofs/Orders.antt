@@ -1,12 +1,13 @@
 -- What carries tell of two numbers.
-use Rattle.std.proofs.Common.{◌≡◌, ◌≢◌, ℕ, ◌+◌, ◌-◌, ◌*◌, ◌^◌, ◌%◌, ◌<◌, ◌≤◌, Bool, true, false, cond, not, eqb, ltb, leb, List, zero, suc, refl, sym, ◌∙◌, ap, arith, ⊎_elim}
+use Rattle.std.proofs.Common.{◌≡◌, ◌≢◌, ℕ, ◌+◌, ◌-◌, ◌*◌, ◌^◌, ◌%◌, ◌<◌, ◌≤◌, Bool, true, false, cond, not, eqb, ltb, leb, int_lt, int_le, List, zero, suc, refl, sym, ◌∙◌, ap, arith, ⊎_elim}
 use Rattle.std.proofs.Math.Nat.{pow-suc}
 use Rattle.std.proofs.lemmas.Nat.{mod-mul-add}
 use Rattle.std.proofs.lemmas.Bool.{cases_lt, cases_eq, lt-ltb, le-ltb, le-leb, lt-leb, eq-eqb, ne_eqb}
 use Rattle.bit_laws.specs.Numbers.{number, low}
 use Rattle.bit_laws.proofs.Numbers.{number-lt}
+use Rattle.element_ops.specs.Values.{signed}
+use Rattle.element_ops.proofs.Signed.{signed-order, signed-most}
 use Rattle.gen_arith.specs.Recipes.{most_on, most_not_on, borrow_on, unlike_on, alike_on, at_most_on, at_most_signed_on}
-use Rattle.gen_arith.specs.Truths.{biased}
 use Rattle.gen_arith.proofs.Rows.{finds, carried}
 
 -- The table takes what is told of two numbers below p to what is told of them with one bit more.
@@ -106,7 +107,11 @@ unlike-follows p x y false false below under =
 
 -- ---- signed numbers
 
--- the number whose highest bit is inverted
+-- Signed numbers of w bits are in the order of these natural numbers: their highest bit is inverted.
+abbrev pub biased : (w a : ℕ) → ℕ
+biased w a = low w (a + 2 ^ (w - 1))
+
+-- that number, by the bits below the highest
 pub biased-number : (n : ℕ) (x : ℕ → Bool) → biased (suc n) (number (suc n) x) ≡ number n x + cond (not (x n)) (2 ^ n) 0
 biased-number n x =
     let z : suc n - 1 ≡ n = omega arith in
@@ -125,6 +130,15 @@ signed-tells on last told first start follows inverts n x y =
     ∙ ap (λ c. finds on c (not (x n)) (not (y n))) (carried-tells on told first start follows n x y)
     ∙ follows (2 ^ n) (number n x) (number n y) (not (x n)) (not (y n)) (number-lt n x) (number-lt n y)
     ∙ rw (biased-number n x, biased-number n y) refl
+
+-- the order of signed numbers is that of the inverted ones
+pub biased-order : (n : ℕ) (x y : ℕ → Bool)
+    → ltb (biased (suc n) (number (suc n) x)) (biased (suc n) (number (suc n) y)) ≡ int_lt (signed (suc n) (number (suc n) x)) (signed (suc n) (number (suc n) y))
+biased-order n x y = sym (signed-order (suc n) (number (suc n) x) (number (suc n) y) (omega arith) (number-lt (suc n) x) (number-lt (suc n) y))
+
+pub biased-most : (n : ℕ) (x y : ℕ → Bool)
+    → leb (biased (suc n) (number (suc n) x)) (biased (suc n) (number (suc n) y)) ≡ int_le (signed (suc n) (number (suc n) x)) (signed (suc n) (number (suc n) y))
+biased-most n x y = sym (signed-most (suc n) (number (suc n) x) (number (suc n) y) (omega arith) (number-lt (suc n) x) (number-lt (suc n) y))
 
 -- ---- the tables at the highest bit
 

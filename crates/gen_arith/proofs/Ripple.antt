@@ -1,54 +1,13 @@
 -- Steps from bit to bit, on one element: of any inputs, for any tables of digits and of carries. (Whatever carries will
 -- want this; it belongs below the crates of the kinds.)
-use Rattle.std.proofs.Common.{◌≡◌, ◌≢◌, ℕ, ◌+◌, ◌-◌, ◌<◌, ◌≤◌, Bool, true, false, cond, ◌&&◌, ◌||◌, eqb, List, [], ◌∷◌, zero, suc, map, refl, sym, ◌∙◌, ap, arith, ⊎_elim}
-use Rattle.std.proofs.lemmas.Bool.{cases_lt, cases_eq, lt-ltb, le-ltb, le-leb, lt-leb, eq-eqb, ne_eqb, eqb-true}
-use Rattle.micro_ir.specs.Steps.{fires, step_on, steps_on, Fits, AllFit}
+use Rattle.std.proofs.Common.{◌≡◌, ◌≢◌, ℕ, ◌+◌, ◌<◌, ◌≤◌, Bool, true, false, ◌||◌, List, [], ◌∷◌, zero, suc, map, refl, sym, ◌∙◌, ap, arith, ⊎_elim}
+use Rattle.std.proofs.lemmas.Bool.{cases_lt, cases_eq, lt-ltb, le-ltb}
+use Rattle.micro_ir.specs.Steps.{fires, step_on, steps_on, AllFit}
 use Rattle.micro_ir.proofs.StepLists.{steps_on-append, AllFit-append}
-use Rattle.frame_laws.proofs.OneElement.{hit, fires-hit, step-row}
-use Rattle.gen_arith.specs.Recipes.{above, below, digit, ripple}
+use Rattle.micro_ir.proofs.OneElement.{hit, fires-hit, step-row, above-else, above-here, above-fits}
+use Rattle.micro_ir.specs.Pieces.{above}
+use Rattle.gen_arith.specs.Recipes.{digit, ripple}
 use Rattle.gen_arith.specs.Laws.{Apart}
-
--- ---- a step at one bit
-
-and_false : (a b : Bool) → (a && false) && b ≡ false
-and_false true b = refl
-and_false false b = refl
-
-or_cond : (f o : Bool) → cond f true o ≡ f || o
-or_cond true o = refl
-or_cond false o = refl
-
-pub above-else : (inputs on : List ℕ) (out j times : ℕ) (e : ℕ → ℕ → Bool) (r i : ℕ) → i ≢ j + times → step_on (above inputs on out j times) e r i ≡ e r i
-unfolding step_on
-above-else inputs on out j times e r i other =
-    ⊎_elim
-    (λ (l : i < times). rw (lt-leb times i l) (rw (and_false (eqb r out) (fires inputs on (λ r. e r (i - times)))) refl))
-    (λ (l : times ≤ i).
-    let apart : i - times ≢ j = λ q. other (omega arith) in
-    rw (le-leb times i l, ne_eqb (i - times) j apart) (rw (and_false (eqb r out) (fires inputs on (λ r. e r (i - times)))) refl))
-    (cases_lt i times)
-
-pub above-here : (inputs on : List ℕ) (out j times : ℕ) (e : ℕ → ℕ → Bool)
-    → step_on (above inputs on out j times) e out (j + times) ≡ fires inputs on (λ r. e r j) || e out (j + times)
-unfolding step_on
-above-here inputs on out j times e =
-    let z : j + times - times ≡ j = omega arith in
-    rw (eq-eqb out out refl, le-leb times (j + times) (omega arith), z, eq-eqb j j refl) (or_cond (fires inputs on (λ r. e r j)) (e out (j + times)))
-
-pub above-fits : (w : ℕ) (inputs on : List ℕ) (out j times : ℕ) → j + times < w → Fits w (above inputs on out j times)
-above-fits w inputs on out j times inside i at = let q : i ≡ j = eqb-true i j at in (omega arith, omega arith, omega arith)
-
-pub below-else : (inputs on : List ℕ) (out j times : ℕ) (e : ℕ → ℕ → Bool) (r i : ℕ) → i + times ≢ j → step_on (below inputs on out j times) e r i ≡ e r i
-unfolding step_on
-below-else inputs on out j times e r i other = rw (ne_eqb (i + times) j other) (rw (and_false (eqb r out) (fires inputs on (λ r. e r (i + times)))) refl)
-
-pub below-here : (inputs on : List ℕ) (out j times : ℕ) (e : ℕ → ℕ → Bool)
-    → step_on (below inputs on out (j + times) times) e out j ≡ fires inputs on (λ r. e r (j + times)) || e out j
-unfolding step_on
-below-here inputs on out j times e = rw (eq-eqb out out refl, eq-eqb (j + times) (j + times) refl) (or_cond (fires inputs on (λ r. e r (j + times))) (e out j))
-
-pub below-fits : (w : ℕ) (inputs on : List ℕ) (out j times : ℕ) → times ≤ j → j < w → Fits w (below inputs on out j times)
-below-fits w inputs on out j times room inside i at = let q : i ≡ j = eqb-true i j at in (omega arith, omega arith, omega arith)
 
 -- ---- the carries
 

@@ -2,7 +2,7 @@
 use Rattle.std.proofs.Common.{◌≡◌, ◌≢◌, ℕ, ◌/◌, ◌%◌, Bool, true, false, cond, not, ◌&&◌, ◌||◌, eqb, List, [], ◌∷◌, zero, suc, map, refl, sym, ◌∙◌, arith, ⊎_elim}
 use mathlib.Core.Bool.{beq}
 use Rattle.std.proofs.lemmas.Bool.{cases_Bool, cases_eq, eq-eqb, ne_eqb}
-use Rattle.frame_laws.proofs.OneElement.{agrees, hit}
+use Rattle.micro_ir.proofs.OneElement.{agrees, hit}
 use Rattle.gen_arith.specs.Recipes.{is_torn, least_whole, once, operands, values_of}
 use Rattle.gen_arith.specs.Laws.{Apart}
 use Rattle.gen_arith.proofs.Ripple.{carries, bits_in}

@@ -6,13 +6,15 @@ use Rattle.bit_laws.proofs.Numbers.{number-lt, number-same}
 use Rattle.micro_ir.specs.Steps.{Step, step_on, steps_on, AllFit, micros, element}
 use Rattle.micro_ir.proofs.Lift.{micros-element}
 use Rattle.micro_ir.proofs.StepLists.{steps_on-append, AllFit-append}
-use Rattle.frame_laws.specs.WorkRows.{active_row, mask_row, scalar_row, result_row}
-use Rattle.frame_laws.specs.Pieces.{clear, commit}
+use Rattle.micro_ir.specs.WorkRows.{active_row, mask_row, scalar_row, result_row}
+use Rattle.micro_ir.specs.Pieces.{clear, commit}
 use Rattle.frame_laws.specs.Kinds.{Writes, Realises}
-use Rattle.frame_laws.proofs.OneElement.{hit, fires-hit, step-row, clear-here, commit-here, commit-row, everywhere-fits, commit-fits}
-use Rattle.gen_arith.specs.Recipes.{carry_row, above, operands, values_of, ripple, Sum, sum_steps, odd_on, most_on, odd_not_on, most_not_on, add, sub, adc, sbc}
+use Rattle.micro_ir.proofs.OneElement.{hit, fires-hit, step-row, clear-here, commit-here, commit-row, everywhere-fits, commit-fits, above-else, above-here, above-fits}
+use Rattle.micro_ir.specs.WorkRows.{carry_row}
+use Rattle.micro_ir.specs.Pieces.{above}
+use Rattle.gen_arith.specs.Recipes.{operands, values_of, ripple, Sum, sum_steps, odd_on, most_on, odd_not_on, most_not_on, add, sub, adc, sbc}
 use Rattle.gen_arith.specs.Laws.{Apart, SumNumbers, CarriedNumbers}
-use Rattle.gen_arith.proofs.Ripple.{or_no, above-here, above-else, above-fits, bits_in, same_inputs, rippled, ripple-fits}
+use Rattle.gen_arith.proofs.Ripple.{or_no, bits_in, same_inputs, rippled, ripple-fits}
 use Rattle.gen_arith.proofs.Rows.{finds, carried, Folds, folds, found, carries-carried, apart-operands}
 use Rattle.gen_arith.proofs.Numbers.{sum_digits, adder, difference_digits, subtracter, low-top}
 

@@ -1,20 +1,23 @@
 -- The lists of comparisons tell their truths.
-use Rattle.std.proofs.Common.{◌≡◌, ◌≢◌, ℕ, ◌+◌, ◌-◌, ◌^◌, ◌<◌, ◌≤◌, Bool, true, false, not, eqb, ltb, leb, [], ◌∷◌, zero, suc, map, refl, sym, ◌∙◌, ap, arith, ⊎_elim}
+use Rattle.std.proofs.Common.{◌≡◌, ◌≢◌, ℕ, ◌+◌, ◌-◌, ◌^◌, ◌<◌, ◌≤◌, Bool, true, false, not, eqb, ltb, leb, int_lt, int_le, [], ◌∷◌, zero, suc, map, refl, sym, ◌∙◌, ap, arith, ⊎_elim}
 use Rattle.std.specs.Int.{from_bool}
 use Rattle.bit_laws.specs.Numbers.{number}
 use Rattle.micro_ir.specs.Steps.{step_on, steps_on, AllFit, micros, element}
 use Rattle.micro_ir.proofs.Lift.{micros-element}
 use Rattle.micro_ir.proofs.StepLists.{steps_on-append, AllFit-append}
-use Rattle.frame_laws.specs.WorkRows.{mask_row, scalar_row, free_row}
-use Rattle.frame_laws.specs.Pieces.{clear}
-use Rattle.frame_laws.proofs.OneElement.{hit, fires-hit, step-row, clear-here, everywhere-fits}
-use Rattle.gen_arith.specs.Recipes.{carry_row, truth_row, above, operands, values_of, ripple, Compare, truth_steps, most_on, most_not_on, borrow_on, unlike_on, alike_on, at_most_on, at_most_signed_on, madc, madc_in, msbc, msbc_in, eq, ne, ltu, lt, leu, le, gtu, gt}
-use Rattle.gen_arith.specs.Truths.{Tells, biased}
+use Rattle.micro_ir.specs.WorkRows.{mask_row, scalar_row, free_row}
+use Rattle.micro_ir.specs.Pieces.{clear}
+use Rattle.micro_ir.proofs.OneElement.{hit, fires-hit, step-row, clear-here, everywhere-fits, above-else, above-here, above-fits}
+use Rattle.micro_ir.specs.WorkRows.{carry_row, truth_row}
+use Rattle.micro_ir.specs.Pieces.{above}
+use Rattle.gen_arith.specs.Recipes.{operands, values_of, ripple, Compare, truth_steps, most_on, most_not_on, borrow_on, unlike_on, alike_on, at_most_on, at_most_signed_on, madc, madc_in, msbc, msbc_in, eq, ne, ltu, lt, leu, le, gtu, gt}
+use Rattle.frame_laws.specs.Kinds.{Tells}
+use Rattle.element_ops.specs.Values.{signed}
 use Rattle.gen_arith.specs.Laws.{Apart, TruthNumbers, CarriedTruths}
-use Rattle.gen_arith.proofs.Ripple.{or_no, above-here, above-else, above-fits, bits_in, same_inputs, rippled, carry-out, ripple-fits}
+use Rattle.gen_arith.proofs.Ripple.{or_no, bits_in, same_inputs, rippled, carry-out, ripple-fits}
 use Rattle.gen_arith.proofs.Rows.{finds, carried, Folds, folds, found, carries-carried, apart-operands}
 use Rattle.gen_arith.proofs.Sums.{first_of, mask_in, most-folds, most_not-folds}
-use Rattle.gen_arith.proofs.Orders.{carried-tells, borrows, borrow-follows, exceeds, exceed-follows, carries_out, carry-follows, differs, unlike-follows, signed-tells, lt-inverts, gt-inverts, alike-negates, at_most-negates, signed-negates, not_lt, not_not}
+use Rattle.gen_arith.proofs.Orders.{carried-tells, borrows, borrow-follows, exceeds, exceed-follows, carries_out, carry-follows, differs, unlike-follows, biased, signed-tells, biased-order, biased-most, lt-inverts, gt-inverts, alike-negates, at_most-negates, signed-negates, not_lt, not_not}
 
 -- what the tables find at the highest of n + 1 bits
 abbrev pub truth_of : Compare → (n a b : ℕ) → (e : ℕ → ℕ → Bool) → Bool
@@ -186,23 +189,26 @@ leu-tells w a b reads pos rows =
     ∙ ap not (carried-tells most_not_on exceeds false refl exceed-follows (suc n) (e a) (e b))
     ∙ not_lt (number (suc n) (e a)) (number (suc n) (e b)))
 
-pub lt-is : (n a b : ℕ) (e : ℕ → ℕ → Bool) → truth_of lt n a b e ≡ ltb (biased (suc n) (number (suc n) (e a))) (biased (suc n) (number (suc n) (e b)))
+pub lt-is : (n a b : ℕ) (e : ℕ → ℕ → Bool) → truth_of lt n a b e ≡ int_lt (signed (suc n) (number (suc n) (e a))) (signed (suc n) (number (suc n) (e b)))
 lt-is n a b e =
     signed-tells borrow_on most_not_on (borrows 0) false refl (borrow-follows 0 (omega arith)) lt-inverts n (e a) (e b)
     ∙ ap (ltb (biased (suc n) (number (suc n) (e a)))) (add_none (biased (suc n) (number (suc n) (e b))))
+    ∙ biased-order n (e a) (e b)
 
-pub lt-tells : TruthNumbers lt (λ w a b. ltb (biased w a) (biased w b))
+pub lt-tells : TruthNumbers lt (λ w a b. int_lt (signed w a) (signed w b))
 lt-tells w a b reads pos rows =
-    tells lt reads (λ w a b c. ltb (biased w a) (biased w b)) w a b pos rows tt borrow-folds most_not-folds (λ n e c mask. lt-is n a b e)
+    tells lt reads (λ w a b c. int_lt (signed w a) (signed w b)) w a b pos rows tt borrow-folds most_not-folds (λ n e c mask. lt-is n a b e)
 
-pub gt-tells : TruthNumbers gt (λ w a b. ltb (biased w b) (biased w a))
+pub gt-tells : TruthNumbers gt (λ w a b. int_lt (signed w b) (signed w a))
 gt-tells w a b reads pos rows =
-    tells gt reads (λ w a b c. ltb (biased w b) (biased w a)) w a b pos rows tt most_not-folds borrow-folds
-    (λ n e c mask. signed-tells most_not_on borrow_on exceeds false refl exceed-follows gt-inverts n (e a) (e b))
+    tells gt reads (λ w a b c. int_lt (signed w b) (signed w a)) w a b pos rows tt most_not-folds borrow-folds
+    (λ n e c mask. signed-tells most_not_on borrow_on exceeds false refl exceed-follows gt-inverts n (e a) (e b)
+    ∙ biased-order n (e b) (e a))
 
-pub le-tells : TruthNumbers le (λ w a b. leb (biased w a) (biased w b))
+pub le-tells : TruthNumbers le (λ w a b. int_le (signed w a) (signed w b))
 le-tells w a b reads pos rows =
-    tells le reads (λ w a b c. leb (biased w a) (biased w b)) w a b pos rows tt most_not-folds signed-folds
+    tells le reads (λ w a b c. int_le (signed w a) (signed w b)) w a b pos rows tt most_not-folds signed-folds
     (λ n e c mask. signed-negates (carried most_not_on false (e a) (e b) n) (e a n) (e b n)
     ∙ ap not (signed-tells most_not_on borrow_on exceeds false refl exceed-follows gt-inverts n (e a) (e b))
-    ∙ not_lt (biased (suc n) (number (suc n) (e a))) (biased (suc n) (number (suc n) (e b))))
+    ∙ not_lt (biased (suc n) (number (suc n) (e a))) (biased (suc n) (number (suc n) (e b)))
+    ∙ biased-most n (e a) (e b))

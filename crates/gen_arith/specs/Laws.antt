@@ -4,10 +4,11 @@ use Rattle.cam_chain.specs.declared.counts.Counts.{Counts}
 use Rattle.micro_ir.specs.declared.op.MicroOp.{MicroOp}
 use Rattle.micro_ir.specs.Replay.{AllInRange, tally}
 use Rattle.micro_ir.specs.Steps.{micros}
-use Rattle.frame_laws.specs.WorkRows.{result_row}
+use Rattle.micro_ir.specs.WorkRows.{result_row}
 use Rattle.frame_laws.specs.Kinds.{Realises}
-use Rattle.gen_arith.specs.Recipes.{carry_row, truth_row, Sum, sum_steps, Compare, truth_steps, choice_steps}
-use Rattle.gen_arith.specs.Truths.{Tells}
+use Rattle.micro_ir.specs.WorkRows.{carry_row, truth_row}
+use Rattle.gen_arith.specs.Recipes.{Sum, sum_steps, Compare, truth_steps, choice_steps}
+use Rattle.frame_laws.specs.Kinds.{Tells}
 
 -- no row of the list is one of these two
 abbrev pub Apart : (c d : ℕ) → List ℕ → Type 0

@@ -1,4 +1,4 @@
 -- The lists of the kinds that carry from bit to bit, and when they realise them.
 pub mod Recipes
-pub mod Truths
+pub mod Starts
 pub mod Laws

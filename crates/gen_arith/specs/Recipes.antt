@@ -1,29 +1,11 @@
 -- The lists of steps of the kinds that carry from bit to bit: sums, comparisons, and the lesser and the greater of two.
-use Rattle.std.specs.Prelude.{ℕ, ◌-◌, Bool, true, false, cond, not, eqb, zero, suc, List, [], ◌∷◌, ◌++◌, map, ◌%◌}
+use Rattle.std.specs.Prelude.{ℕ, ◌-◌, Bool, true, cond, not, eqb, zero, suc, List, [], ◌∷◌, ◌++◌, map, ◌%◌}
 use lib.Dec.{ltb}
 use mathlib.Core.Bool.{beq}
 use Rattle.bit_laws.specs.Numbers.{bit_of}
 use Rattle.micro_ir.specs.Steps.{Step}
-use Rattle.frame_laws.specs.WorkRows.{mask_row, result_row}
-use Rattle.frame_laws.specs.Pieces.{everywhere, clear, commit}
-
--- the carry into each bit
-abbrev pub carry_row : ℕ
-carry_row = 35
-
--- the truth of a kind that makes a mask, at the highest bit
-abbrev pub truth_row : ℕ
-truth_row = 41
-
--- ---- steps at one bit
-
--- a step at bit j, which writes so many bits above it
-abbrev pub above : (inputs on : List ℕ) (out j times : ℕ) → Step
-above inputs on out j times = record { inputs = inputs; on = on; out = out; bit = true; at = λ i. eqb i j; up = true; times = times }
-
--- the same, below it
-abbrev pub below : (inputs on : List ℕ) (out j times : ℕ) → Step
-below inputs on out j times = record { inputs = inputs; on = on; out = out; bit = true; at = λ i. eqb i j; up = false; times = times }
+use Rattle.micro_ir.specs.WorkRows.{mask_row, carry_row, result_row, truth_row}
+use Rattle.micro_ir.specs.Pieces.{everywhere, above, clear, commit, downs}
 
 -- ---- a table of three rows, of which the second and the third may be one
 
@@ -186,11 +168,6 @@ abbrev pub gt : Compare
 gt = compare most_not_on borrow_on
 
 -- ---- one of two, by a truth
-
--- the bit at place n of a row into every bit below it
-unfoldable pub downs : (row n : ℕ) → List Step
-downs row zero = []
-downs row (suc n) = below (row ∷ []) (1 ∷ []) row (suc n) 1 ∷ downs row n
 
 -- the table of the truth, a and b: a where the truth is 1, else b
 abbrev pub first_on : List ℕ

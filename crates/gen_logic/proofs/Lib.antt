@@ -1,3 +1,6 @@
--- The proofs of the laws of the kinds that act bit by bit.
+-- The proofs of the kinds that act bit by bit.
 pub mod Tables
 pub mod Logic
+pub mod Merge
+pub mod FrameSteps
+pub mod Written

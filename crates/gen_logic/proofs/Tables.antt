@@ -8,12 +8,12 @@ use Rattle.micro_ir.specs.declared.op.MicroOp.{MicroOp}
 use Rattle.micro_ir.specs.Steps.{Step, step_on, steps_on, Fits, AllFit, micros, element}
 use Rattle.micro_ir.proofs.Lift.{micros-element}
 use Rattle.micro_ir.proofs.StepLists.{tally-micros, length-micros, AllInRange-micros}
-use Rattle.frame_laws.specs.WorkRows.{active_row, result_row}
-use Rattle.frame_laws.specs.Pieces.{everywhere, clear, commit}
+use Rattle.micro_ir.specs.WorkRows.{active_row, mask_row, result_row}
+use Rattle.micro_ir.specs.Pieces.{everywhere, clear, commit}
 use Rattle.frame_laws.specs.Kinds.{Realises, WritesBits, RealisesBits}
-use Rattle.frame_laws.proofs.OneElement.{hit, fires-hit, step-row, everywhere-here, clear-here, commit-here, commit-row, everywhere-fits, commit-fits}
+use Rattle.micro_ir.proofs.OneElement.{hit, fires-hit, step-row, everywhere-here, clear-here, commit-here, commit-row, everywhere-fits, commit-fits}
 use Rattle.gen_logic.specs.Recipes.{has, once, of_one_row, of_rows, table_steps}
-use Rattle.gen_logic.specs.Laws.{Measured}
+use Rattle.gen_logic.specs.Values.{bitwise, Measured}
 
 -- ---- from one element to all, and from bits to numbers
 
@@ -22,20 +22,23 @@ pub bits-lifted : (w to : ℕ) (value : (ℕ → Bool) → Bool) (steps : List S
 unfolding RealisesBits
 bits-lifted w to value steps fits writes s k col inside column = rw (micros-element w k col steps s fits inside column) (writes (element w k col s))
 
--- a list that realises a kind bit by bit realises it as numbers, whose bits are those of the kind
-pub numbers-of-bits : (w to : ℕ) (reads : Bool) (truth : (ℕ → Bool) → Bool) (value : (ℕ → ℕ) → ℕ) (ops : List MicroOp)
-    → ((n : ℕ → ℕ) (j : ℕ) → bit_of (value n) j ≡ truth (λ r. bit_of (n r) j))
+-- A list that realises a kind bit by bit realises it as numbers, whose bits are those of the kind. Where the mask is an
+-- operand, the bits of its row are the mask bit.
+pub numbers-of-bits : (w to : ℕ) (reads : Bool) (truth : (ℕ → Bool) → Bool) (value : (ℕ → ℕ) → Bool → ℕ) (ops : List MicroOp)
+    → ((n : ℕ → ℕ) (m : Bool) (j : ℕ) → j < w → (reads ≡ true → bit_of (n mask_row) j ≡ m) → bit_of (value n m) j ≡ truth (λ r. bit_of (n r) j))
     → ((f g : ℕ → Bool) → ((r : ℕ) → f r ≡ g r) → truth f ≡ truth g)
-    → RealisesBits w to truth ops → Realises w to reads (λ n m. value n) ops
+    → RealisesBits w to truth ops → Realises w to reads value ops
 unfolding RealisesBits Realises
 numbers-of-bits w to reads truth value ops bits same real s k col inside column =
     let x = real s k col inside column in
     let e = element w k col s in
+    let n : ℕ → ℕ = λ r. number w (e r) in
     record {
       active = λ h m mask.
-          number-same w _ (bit_of (value (λ r. number w (e r)))) (λ j below.
-          x.bits j below ∙ rw (h j below) (same (λ r. e r j) (λ r. bit_of (number w (e r)) j) (λ r. sym (bit-number w (e r) j below)) ∙ sym (bits (λ r. number w (e r)) j)))
-          ∙ number-bits w (value (λ r. number w (e r)));
+          number-same w _ (bit_of (value n m)) (λ j below.
+          x.bits j below ∙ rw (h j below) (same (λ r. e r j) (λ r. bit_of (n r) j) (λ r. sym (bit-number w (e r) j below))
+          ∙ sym (bits n m j below (λ read. bit-number w (e mask_row) j below ∙ mask read j below))))
+          ∙ number-bits w (value n m);
       idle = λ h j below. x.bits j below ∙ rw (h j below) refl;
       kept = x.kept;
     }
@@ -80,7 +83,7 @@ two-here w a b on e j inside first second =
     everywhere-here w (a ∷ b ∷ []) on result_row true e1 j inside
     ∙ rw (clear-here w result_row e j inside, fires-hit (a ∷ b ∷ []) on (λ r. e1 r j), step-row (clear w result_row) e a j first, step-row (clear w result_row) e b j second) refl
 
-as_is : (b : Bool) → cond b true false ≡ b
+pub as_is : (b : Bool) → cond b true false ≡ b
 as_is true = refl
 as_is false = refl
 
@@ -140,18 +143,32 @@ pub table-bits : (on : List ℕ) (truth : Bool → Bool → Bool) → IsTable on
 table-bits on truth table w a b to first second register =
     bits-lifted w to (λ n. truth (n a) (n b)) (table_steps w on a b to) (table-fits w on a b to) (λ e. table-writes w on truth a b to e table first second register)
 
+-- as numbers of the bits below w
+table-below : (on : List ℕ) (truth : Bool → Bool → Bool) (w : ℕ) (value : ℕ → ℕ → ℕ) → IsTable on truth → ((x y j : ℕ) → j < w → bit_of (value x y) j ≡ truth (bit_of x j) (bit_of y j))
+    → (a b to : ℕ) (reads : Bool) → a ≢ result_row → b ≢ result_row → to < 32
+    → Realises w to reads (λ n m. value (n a) (n b)) (micros w (table_steps w on a b to))
+table-below on truth w value table bits a b to reads first second register =
+    numbers-of-bits w to reads (λ n. truth (n a) (n b)) (λ n m. value (n a) (n b)) (micros w (table_steps w on a b to))
+    (λ n m j below mask. bits (n a) (n b) j below) (λ f g same. rw (same a, same b) refl) (table-bits on truth table w a b to first second register)
+
+-- as numbers that do not depend on the width
 pub table-numbers : (on : List ℕ) (truth : Bool → Bool → Bool) (value : ℕ → ℕ → ℕ) → IsTable on truth → ((x y j : ℕ) → bit_of (value x y) j ≡ truth (bit_of x j) (bit_of y j))
     → (w a b to : ℕ) (reads : Bool) → a ≢ result_row → b ≢ result_row → to < 32
     → Realises w to reads (λ n m. value (n a) (n b)) (micros w (table_steps w on a b to))
 table-numbers on truth value table bits w a b to reads first second register =
-    numbers-of-bits w to reads (λ n. truth (n a) (n b)) (λ n. value (n a) (n b)) (micros w (table_steps w on a b to))
-    (λ n j. bits (n a) (n b) j) (λ f g same. rw (same a, same b) refl) (table-bits on truth table w a b to first second register)
+    table-below on truth w value table (λ x y j below. bits x y j) a b to reads first second register
+
+-- as the number of the truths
+pub table-bitwise : (on : List ℕ) (truth : Bool → Bool → Bool) → IsTable on truth → (w a b to : ℕ) (reads : Bool) → a ≢ result_row → b ≢ result_row → to < 32
+    → Realises w to reads (λ n m. bitwise truth w (n a) (n b)) (micros w (table_steps w on a b to))
+table-bitwise on truth table w a b to reads first second register =
+    table-below on truth w (bitwise truth w) table (λ x y j below. bit-number w (λ i. truth (bit_of x i) (bit_of y i)) j below) a b to reads first second register
 
 -- ---- what lists cost
 
 -- a list with one step of so many values between a clear and a commit
 pub made-measured : (w to : ℕ) (step : Step) (t : ℕ) (ts : List ℕ) → step.on ≡ t ∷ ts → step.times ≡ 0 → step.out ≡ result_row → to < 32
-    → Measured (length (t ∷ ts) + 3) (micros w (clear w result_row ∷ step ∷ commit w result_row to))
+    → Measured (length (t ∷ ts) + 3) 4 (micros w (clear w result_row ∷ step ∷ commit w result_row to))
 made-measured w to step t ts on times out register =
     let steps : List Step = clear w result_row ∷ step ∷ commit w result_row to in
     record {
@@ -160,7 +177,7 @@ made-measured w to step t ts on times out register =
       range = λ columns. AllInRange-micros columns w steps (omega arith, omega arith, (rw out (omega arith), rw times (omega arith), (omega arith, omega arith, (omega arith, omega arith, tt))));
     }
 
-pub table-measured : (t : ℕ) (ts : List ℕ) (w a b to : ℕ) → to < 32 → Measured (length (t ∷ ts) + 3) (micros w (table_steps w (t ∷ ts) a b to))
+pub table-measured : (t : ℕ) (ts : List ℕ) (w a b to : ℕ) → to < 32 → Measured (length (t ∷ ts) + 3) 4 (micros w (table_steps w (t ∷ ts) a b to))
 unfolding table_steps
 table-measured t ts w a b to register = chosen (eqb a b) (has 0 on || has 3 on)
   where
@@ -170,10 +187,10 @@ table-measured t ts w a b to register = chosen (eqb a b) (has 0 on || has 3 on)
     long : (f : ℕ → ℕ) → length (map f on) + 3 ≡ length on + 3
     long f = ap (λ n. n + 3) (length-map on f)
 
-    carried : (m n : ℕ) (ops : List MicroOp) → m ≡ n → Measured m ops → Measured n ops
-    carried m n ops e x = subst (λ z. Measured z ops) e x
+    carried : (m n : ℕ) (ops : List MicroOp) → m ≡ n → Measured m 4 ops → Measured n 4 ops
+    carried m n ops e x = subst (λ z. Measured z 4 ops) e x
 
-    chosen : (c d : Bool) → Measured (length on + 3) (micros w (clear w result_row ∷ cond c (cond d (everywhere w (a ∷ []) (map (once on) on) result_row true) (everywhere w (result_row ∷ []) (map (λ t. 1) on) result_row true)) (everywhere w (a ∷ b ∷ []) on result_row true) ∷ commit w result_row to))
+    chosen : (c d : Bool) → Measured (length on + 3) 4 (micros w (clear w result_row ∷ cond c (cond d (everywhere w (a ∷ []) (map (once on) on) result_row true) (everywhere w (result_row ∷ []) (map (λ t. 1) on) result_row true)) (everywhere w (a ∷ b ∷ []) on result_row true) ∷ commit w result_row to))
     chosen true true = carried _ _ _ (long (once on)) (made-measured w to (everywhere w (a ∷ []) (map (once on) on) result_row true) (once on t) (map (once on) ts) refl refl refl register)
     chosen true false = carried _ _ _ (long (λ t. 1)) (made-measured w to (everywhere w (result_row ∷ []) (map (λ t. 1) on) result_row true) 1 (map (λ t. 1) ts) refl refl refl register)
     chosen false d = made-measured w to (everywhere w (a ∷ b ∷ []) on result_row true) t ts refl refl refl register

@@ -1,3 +1,3 @@
--- The lists of the kinds that act bit by bit, and when they realise them.
+-- The lists of the kinds that act bit by bit, and their values.
 pub mod Recipes
-pub mod Laws
+pub mod Values

@@ -4,7 +4,7 @@ use Rattle.rvv_decode.specs.declared.instruction.VInstr.{VInstr}
 use Rattle.rvv_decode.specs.declared.instruction.Form.TheVariants.{V}
 use Rattle.vtype_cfg.specs.declared.vtype.Vtype.{Vtype}
 use Rattle.vtype_cfg.specs.Settings.{is_vill_or_supported}
-use Rattle.vtype_cfg.specs.Classes.{Class, plain, move, class_of}
+use Rattle.vtype_cfg.specs.Classes.{Class, plain, move, compare, class_of}
 use Rattle.vtype_cfg.specs.Legality.{is_legal}
 
 -- how many registers a group of elements of SEW bits takes: LMUL, and one where that is less
@@ -24,6 +24,21 @@ pub record SewGroups (i : VInstr) (vt : Vtype) : Type 0 where
   pub spares_mask : i.vm ≡ false → 0 < i.vd
   pub vs1 : i.form ≡ V → SameOrApart (group_count vt) i.vd i.vs1
 
+-- The group of n registers from r on ends with v31 at the latest; and the one register vd is its lowest-numbered one or apart
+-- from it.
+abbrev pub LowestOrApart : (n vd r : ℕ) → Type 0
+LowestOrApart n vd r = (r + n ≤ 32) × ((vd ≡ r) ⊎ ((vd < r) ⊎ (r + n ≤ vd)))
+
+-- an instruction whose destination is a mask, and whose vs2 and vs1 are groups of elements of SEW bits; it may write the mask
+-- that it reads
+pub record MaskGroups (i : VInstr) (vt : Vtype) : Type 0 where
+  pub vill : vt.vill ≡ false
+  pub sew : (vt.sew ≡ 8) ⊎ ((vt.sew ≡ 16) ⊎ (vt.sew ≡ 32))
+  pub few : group_count vt ≤ 8
+  pub room : i.vd < 32
+  pub vs2 : LowestOrApart (group_count vt) i.vd i.vs2
+  pub vs1 : i.form ≡ V → LowestOrApart (group_count vt) i.vd i.vs1
+
 -- what a legal instruction of a class has
 abbrev pub Follows : Class → (VInstr → Vtype → Type 0) → Type 0
 Follows class fact =
@@ -35,3 +50,7 @@ PlainLaw = Follows plain (λ i vt. SewGroups i vt × SameOrApart (group_count vt
 
 abbrev pub MoveLaw : Type 0
 MoveLaw = Follows move SewGroups
+
+-- A comparison has two such groups and a mask as its destination, as a carry out has.
+abbrev pub CompareLaw : Type 0
+CompareLaw = Follows compare MaskGroups

@@ -1,5 +1,5 @@
 -- Each kind of instruction, carried out by its method, is a step.
-use Rattle.std.proofs.Common.{◌≡◌, ℕ, ◌≤◌, Bool, true, false, List, [], ◌++◌, length, take, Option, Some, None, refl, sym, ap, ◌∙◌, append-nil, arith}
+use Rattle.std.proofs.Common.{◌≡◌, ℕ, Bool, true, false, List, [], Option, Some, None, refl, sym, ap, ◌∙◌, append-nil, arith}
 use Rattle.std.specs.Prelude.{if◌then◌else◌, nat_eq, is_some}
 use Rattle.std.specs.Io.KnownBytes.{Appends, Consumes}
 use Rattle.cape_io.specs.Devices.{PutsFront}
@@ -10,7 +10,7 @@ use Rattle.rv32_decode.specs.declared.instruction.Instr.{Instr}
 use Rattle.rvv_decode.specs.declared.instruction.ConfigOp.{ConfigOp}
 use Rattle.rvv_decode.specs.declared.instruction.Form.{Form}
 use Rattle.rvv_decode.specs.declared.instruction.OpiOp.{OpiOp}
-use Rattle.rvv_decode.specs.declared.instruction.OpiOp.TheVariants.{Vand, Vor, Vxor, VmvV}
+use Rattle.rvv_decode.specs.declared.instruction.OpiOp.TheVariants.{Vadd, Vsub, Vrsub, Vadc, Vsbc, Vmadc, Vmsbc, Vand, Vor, Vxor, Vmseq, Vmsne, Vmsltu, Vmslt, Vmsleu, Vmsle, Vmsgtu, Vmsgt, Vminu, Vmin, Vmaxu, Vmax, Vmerge, VmvV}
 use Rattle.rvv_decode.specs.declared.instruction.VInstr.{VInstr}
 use Rattle.rvv_decode.specs.declared.instruction.VOp.{VOp}
 use Rattle.rvv_decode.specs.declared.instruction.VOp.TheVariants.{Opi, Opm, Config, Memory}
@@ -21,7 +21,7 @@ use Rattle.rvv_meaning.specs.declared.Flow.TheVariants.{Call as Calls}
 use Rattle.rvv_meaning.specs.declared.Next.TheVariants.{Stop, Perform}
 use Rattle.rvv_meaning.specs.Calls.{first, named_call, asked_by, put_by}
 use Rattle.rvv_meaning.specs.States.{Core, next, core_after, call_at, call_by, asked, puts, effect_at, with_effect, after_flow, executed_vector, called, cfg_at, configured, elementwise, reg}
-use Rattle.rvv_meaning.specs.Arithmetic.{value_of}
+use Rattle.rvv_meaning.specs.Arithmetic.{operation_for}
 use Rattle.rvv_meaning.specs.Vectors.{scalar_operand, on_elements_is_built}
 use Rattle.rvv_meaning.proofs.Calling.{Rests, executed-rests}
 use Rattle.guest_env.specs.Inputs.{Takes}
@@ -92,11 +92,31 @@ call_puts i c there is = rw (there, is) refl
 pub emptied : (old new : Held) (core : Core) → old.last ≡ [] → new ≡ record old { core = core } → new ≡ record old { core = core; last = [] }
 emptied old new core none is = is ∙ ap (λ (ops : List MicroOp). record old { core = core; last = ops }) none
 
-opi-runs : (op : OpiOp) (form : Form) → is_some (value_of op) ≡ true → is_opi_engine op form ≡ true
-unfolding value_of
+opi-runs : (op : OpiOp) (form : Form) → is_some (operation_for op) ≡ true → is_opi_engine op form ≡ true
+unfolding operation_for
+opi-runs Vadd form on = refl
+opi-runs Vsub form on = refl
+opi-runs Vrsub form on = refl
+opi-runs Vadc form on = refl
+opi-runs Vsbc form on = refl
+opi-runs Vmadc form on = refl
+opi-runs Vmsbc form on = refl
 opi-runs Vand form on = refl
 opi-runs Vor form on = refl
 opi-runs Vxor form on = refl
+opi-runs Vmseq form on = refl
+opi-runs Vmsne form on = refl
+opi-runs Vmsltu form on = refl
+opi-runs Vmslt form on = refl
+opi-runs Vmsleu form on = refl
+opi-runs Vmsle form on = refl
+opi-runs Vmsgtu form on = refl
+opi-runs Vmsgt form on = refl
+opi-runs Vminu form on = refl
+opi-runs Vmin form on = refl
+opi-runs Vmaxu form on = refl
+opi-runs Vmax form on = refl
+opi-runs Vmerge form on = refl
 opi-runs VmvV form on = refl
 opi-runs _ form on = cc
 

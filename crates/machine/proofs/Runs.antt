@@ -1,6 +1,6 @@
 -- Runs: they go on step by step, stop where the machine stops, and only add to what was put out.
-use Rattle.std.proofs.Common.{◌≡◌, ℕ, zero, suc, ◌+◌, ◌-◌, ◌<◌, ◌≤◌, Bool, true, false, List, [], ◌∷◌, ◌++◌, Option, Some, None, refl, sym, ap, ◌∙◌, append_assoc, append-nil, arith}
-use Rattle.rvv_meaning.specs.States.{Core, State, step, run, is_running}
+use Rattle.std.proofs.Common.{◌≡◌, ℕ, zero, suc, ◌-◌, ◌≤◌, Bool, true, false, List, [], ◌++◌, Option, refl, sym, ap, ◌∙◌, append_assoc, append-nil, arith}
+use Rattle.rvv_meaning.specs.States.{State, step, run, is_running}
 use Rattle.machine.specs.Moments.{Held, Moment, moment_after, moments}
 use Rattle.guest_env.specs.Answers.{IsReading}
 use Rattle.machine.specs.Views.{CallsAt, GoesBy, FaultsIn, IsFrontOf, RunsOn, ReadsIn, shown_out, shown_err, gains_out, gains_err}

@@ -1,14 +1,12 @@
 -- Objects that go on showing a moment.
-use Rattle.std.proofs.Common.{◌≡◌, ℕ, Bool, true, false, List, [], ◌∷◌, ◌++◌, Option, Some, None, refl, sym, ap, ◌∙◌, append_assoc, append-nil, take, drop}
-use Rattle.std.specs.Prelude.{if◌then◌else◌}
+use Rattle.std.proofs.Common.{◌≡◌, ℕ, Bool, true, false, List, [], ◌++◌, Option, Some, None, refl, sym, ap, ◌∙◌, append_assoc, take, drop}
 use Rattle.std.specs.Io.KnownBytes.{Appends}
 use Rattle.std.proofs.lemmas.List.{take-append-drop, append_cancel_left}
 use Rattle.cape_io.specs.Devices.{PutsFront}
-use Rattle.cam_chain.specs.ChainValue.{slices_of}
 use Rattle.rvv_meaning.specs.States.{State, step, asked, core_after}
 use Rattle.guest_env.specs.Inputs.{Takes}
-use Rattle.machine.specs.Moments.{Held, Moment, moment_after, program_at, slices_by, last_by}
-use Rattle.machine.specs.Views.{Shows, GoesBy, FaultsIn, GainsFront, IsFrontOf, shown_out, shown_err, gains_out, gains_err}
+use Rattle.machine.specs.Moments.{Held, moment_after}
+use Rattle.machine.specs.Views.{GoesBy, FaultsIn, GainsFront, shown_out, shown_err, gains_out, gains_err}
 use Rattle.machine.specs.Carrying.{Carries, Fails}
 
 -- bytes that were gained, and then more

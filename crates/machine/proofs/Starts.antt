@@ -1,9 +1,9 @@
 -- The registers of blank slices, and a byte of a register read from a word.
-use Rattle.std.proofs.Common.{◌≡◌, ℕ, ◌+◌, ◌*◌, ◌/◌, ◌%◌, ◌^◌, ◌-◌, ◌<◌, ◌≤◌, Bool, false, eqb, List, [], length, refl, sym, ◌∙◌, ap, arith, bit_and}
+use Rattle.std.proofs.Common.{◌≡◌, ℕ, ◌+◌, ◌*◌, ◌/◌, ◌%◌, ◌^◌, ◌<◌, eqb, refl, sym, ◌∙◌, arith, bit_and}
 use Rattle.std.proofs.Math.ListN.{replicate}
 use Rattle.std.specs.Int.{bit_at}
 use Rattle.std.proofs.lemmas.Nat.{and_mask}
-use Rattle.bit_laws.specs.Numbers.{number, bit_of}
+use Rattle.bit_laws.specs.Numbers.{bit_of}
 use Rattle.bit_laws.proofs.Numbers.{number-same, number-part}
 use Rattle.bit_laws.proofs.Lists.{tabulate-constant}
 use Rattle.bit_rows.specs.Slices.{Slices, blank}

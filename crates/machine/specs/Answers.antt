@@ -1,5 +1,5 @@
 -- How a machine answers.
-use Rattle.std.specs.Prelude.{ℕ, Option, Some, None}
+use Rattle.std.specs.Prelude.{Option, Some, None}
 use Rattle.rvv_meaning.specs.declared.Mode.{Mode}
 use Rattle.rvv_meaning.specs.declared.Mode.TheVariants.{Running, Exited, Trapped, Unbuilt}
 use Rattle.machine.specs.declared.answers.Step.{Step}

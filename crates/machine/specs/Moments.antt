@@ -1,5 +1,5 @@
 -- Moments of a machine: its state with the state of its slices and the program of its last step.
-use Rattle.std.specs.Prelude.{◌≡◌, ℕ, zero, suc, ◌/◌, Bool, false, List, [], Option, Some, None, if◌then◌else◌}
+use Rattle.std.specs.Prelude.{ℕ, zero, suc, ◌/◌, Bool, false, List, [], Option, Some, None, if◌then◌else◌}
 use Rattle.bit_rows.specs.Slices.{Slices, blank}
 use Rattle.cam_chain.specs.ChainValue.{ChainValue}
 use Rattle.micro_ir.specs.declared.control.Control.{Control}

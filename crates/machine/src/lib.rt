@@ -5,8 +5,6 @@
 mod answers;
 mod built;
 mod core_state;
-#[cfg(test)]
-mod tests;
 
 pub use answers::{DeviceFault, Step};
 pub use core_state::Machine;

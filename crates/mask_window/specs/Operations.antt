@@ -2,7 +2,7 @@
 use Rattle.std.specs.Prelude.{◌≡◌, ℕ, Bool, true, false, ◌&&◌}
 use lib.Dec.{ltb}
 use Rattle.element_ops.specs.Places.{Place, prestart, active, masked_off, tail, place_of}
-use Rattle.frame_laws.specs.WorkRows.{active_row, free_row}
+use Rattle.micro_ir.specs.WorkRows.{active_row, free_row}
 use Rattle.micro_ir.specs.declared.op.MicroOp.{MicroOp}
 use Rattle.micro_ir.specs.declared.op.MicroOp.TheVariants.{Window, Free}
 use Rattle.steer_net.specs.Network.{is_within, is_free}

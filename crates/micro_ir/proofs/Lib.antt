@@ -1,6 +1,11 @@
 -- Lemmas on lists of operations and on steps.
 pub mod Lists
-pub mod Windows
 pub mod Subs
 pub mod Lift
 pub mod StepLists
+pub mod OneElement
+pub mod Effects
+pub mod TableLists
+pub mod Shifted
+pub mod TableEffects
+pub mod PieceLists

@@ -7,9 +7,9 @@ use Rattle.cam_chain.specs.KeyPairs.{keys_of}
 use Rattle.bit_rows.specs.Slices.{Slices, placed}
 use Rattle.cam_chain.specs.Slices.{selected, matches, searched, updated, passed}
 use Rattle.micro_ir.specs.declared.op.MicroOp.{MicroOp}
-use Rattle.micro_ir.specs.declared.op.MicroOp.TheVariants.{Search, Update, Pass, Window, Free}
+use Rattle.micro_ir.specs.declared.op.MicroOp.TheVariants.{Search, Update, Pass, Window, Free, PackMask}
 use Rattle.micro_ir.specs.Replay.{effect, replay}
-use Rattle.steer_net.specs.Network.{windowed, freed}
+use Rattle.steer_net.specs.Network.{windowed, freed, packed}
 use Rattle.micro_ir.specs.Subs.{subs_of}
 use Rattle.micro_ir.specs.Steps.{Step, searches, fires, moved, source, pass_of, micro_from, micro, micros, Fits, AllFit, element, step_on, steps_on}
 
@@ -54,7 +54,8 @@ fresh-tag subs inputs t ts s sub col p q =
     joined-tag subs inputs ts (searched subs (keys_of inputs t) false s) sub col p q
     ∙ rw (p, q) (or_turn (fires inputs ts (λ row. s.bit sub row col)) (matches (λ row. s.bit sub row col) (keys_of inputs t)))
 
-place_true : (n sub col : ℕ) → sub < 32 → col < n → placed n sub col ≡ true
+-- a place of the chain
+pub place_true : (n sub col : ℕ) → sub < 32 → col < n → placed n sub col ≡ true
 place_true n sub col h q = rw (lt-ltb sub 32 h, lt-ltb col n q) refl
 
 -- the tags after the pass, where the output lies
@@ -209,6 +210,36 @@ replay-columns (Update subs row bit ∷ ops) s = replay-columns ops (updated sub
 replay-columns (Pass up times ∷ ops) s = replay-columns ops (passed up times s)
 replay-columns (Window row width first from to masked ∷ ops) s = replay-columns ops (windowed row width first from to masked s)
 replay-columns (Free row width first from to masked tail off ∷ ops) s = replay-columns ops (freed row width first from to masked tail off s)
+replay-columns (PackMask from under to width first ∷ ops) s = replay-columns ops (packed from under to width first s)
+
+-- a replay leaves the control number
+pub replay-num : (ops : List MicroOp) (s : Slices) → (replay ops s).num ≡ s.num
+unfolding replay
+replay-num [] s = refl
+replay-num (Search subs keys join ∷ ops) s = replay-num ops (searched subs keys join s)
+replay-num (Update subs row bit ∷ ops) s = replay-num ops (updated subs row bit s)
+replay-num (Pass up times ∷ ops) s = replay-num ops (passed up times s)
+replay-num (Window row width first from to masked ∷ ops) s = replay-num ops (windowed row width first from to masked s)
+replay-num (Free row width first from to masked tail off ∷ ops) s = replay-num ops (freed row width first from to masked tail off s)
+replay-num (PackMask from under to width first ∷ ops) s = replay-num ops (packed from under to width first s)
+
+cond_same : (b x : Bool) → cond b x x ≡ x
+cond_same true x = refl
+cond_same false x = refl
+
+-- a replay leaves what lies outside the chain
+pub replay-outside : (ops : List MicroOp) (s : Slices) (sub row col : ℕ) → placed s.columns sub col ≡ false → (replay ops s).bit sub row col ≡ s.bit sub row col
+unfolding replay
+replay-outside [] s sub row col out = refl
+replay-outside (Search subs keys join ∷ ops) s sub row col out = replay-outside ops (searched subs keys join s) sub row col out
+replay-outside (Update subs to bit ∷ ops) s sub row col out = replay-outside ops (updated subs to bit s) sub row col out ∙ rw out refl
+replay-outside (Pass up times ∷ ops) s sub row col out = replay-outside ops (passed up times s) sub row col out
+replay-outside (Window to width first from below masked ∷ ops) s sub row col out =
+    replay-outside ops (windowed to width first from below masked s) sub row col out ∙ rw out (cond_same (eqb row to) (s.bit sub row col))
+replay-outside (Free to width first from below masked tail off ∷ ops) s sub row col out =
+    replay-outside ops (freed to width first from below masked tail off s) sub row col out ∙ rw out (cond_same (eqb row to) (s.bit sub row col))
+replay-outside (PackMask from under to width first ∷ ops) s sub row col out =
+    replay-outside ops (packed from under to width first s) sub row col out ∙ rw out (cond_same (eqb row to) (s.bit sub row col))
 
 -- a list of steps acts on each element by itself
 pub micros-element : (w k col : ℕ) (steps : List Step) (s : Slices) → AllFit w steps → k * w + w ≤ 32 → col < s.columns

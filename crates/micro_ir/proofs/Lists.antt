@@ -1,11 +1,11 @@
 -- Lists of operations, joined or one operation longer.
-use Rattle.std.proofs.Common.{◌≡◌, ℕ, ◌+◌, ◌<◌, ◌≤◌, List, [], ◌∷◌, ◌++◌, zero, suc, length, get_or, take, refl, sym, ◌∙◌, ap, arith, add_assoc, zero-add, add-zero}
+use Rattle.std.proofs.Common.{◌≡◌, ℕ, ◌+◌, ◌*◌, ◌<◌, ◌≤◌, List, [], ◌∷◌, ◌++◌, zero, suc, length, get_or, take, refl, sym, ◌∙◌, ap, arith, add_assoc, zero-add, add-zero}
 use Rattle.std.proofs.lemmas.List.{take_more}
 use Rattle.bit_rows.specs.Slices.{Slices}
 use Rattle.cam_chain.specs.ChainValue.{no_counts}
 use Rattle.cam_chain.specs.declared.counts.Counts.{Counts}
 use Rattle.micro_ir.specs.declared.op.MicroOp.{MicroOp}
-use Rattle.micro_ir.specs.declared.op.MicroOp.TheVariants.{Search, Update, Pass, Window, Free}
+use Rattle.micro_ir.specs.declared.op.MicroOp.TheVariants.{Search, Update, Pass, Window, Free, PackMask}
 use Rattle.micro_ir.specs.Replay.{effect, replay, IsInRange, AllInRange, counts_in, counts_and, tally}
 
 -- the replay of two lists, one after the other
@@ -76,10 +76,26 @@ IsInRange-at columns (suc n) [] i op p h l e = absurd (omega arith)
 IsInRange-at columns (suc n) (x ∷ xs) zero op p h l e = rw e p.0
 IsInRange-at columns (suc n) (x ∷ xs) (suc i) op p h l e = IsInRange-at columns n xs i op p.1 (omega arith) (omega arith) e
 
+-- Counts of so many operations: each makes one search or one update at most, and 31 passes at most.
+pub record Few (n : ℕ) (k : Counts) : Type 0 where
+  pub searches : k.searches ≤ n
+  pub updates : k.updates ≤ n
+  pub passes : k.passes ≤ 31 * n
+
 -- an operation that a chain can run counts little
-pub counts_in-few : (columns : ℕ) (op : MicroOp) → IsInRange columns op → ((counts_in op).searches ≤ 31) × ((counts_in op).updates ≤ 31) × ((counts_in op).passes ≤ 31)
-counts_in-few columns (Search subs keys join) h = (omega arith, omega arith, omega arith)
-counts_in-few columns (Update subs row bit) h = (omega arith, omega arith, omega arith)
-counts_in-few columns (Pass up times) h = (omega arith, omega arith, h.1)
-counts_in-few columns (Window row width first from to masked) h = (omega arith, omega arith, omega arith)
-counts_in-few columns (Free row width first from to masked tail off) h = (omega arith, omega arith, omega arith)
+pub few-one : (columns : ℕ) (op : MicroOp) → IsInRange columns op → Few 1 (counts_in op)
+few-one columns (Search subs keys join) range = record { searches = omega arith; updates = omega arith; passes = omega arith }
+few-one columns (Update subs row bit) range = record { searches = omega arith; updates = omega arith; passes = omega arith }
+few-one columns (Pass up times) range = record { searches = omega arith; updates = omega arith; passes = range.1 }
+few-one columns (Window row width first from to masked) range = record { searches = omega arith; updates = omega arith; passes = omega arith }
+few-one columns (Free row width first from to masked tail off) range = record { searches = omega arith; updates = omega arith; passes = omega arith }
+few-one columns (PackMask from under to width first) range = record { searches = omega arith; updates = omega arith; passes = omega arith }
+
+-- a list of such operations
+pub tally-few : (columns : ℕ) (ops : List MicroOp) → AllInRange columns ops → Few (length ops) (tally ops)
+unfolding tally AllInRange
+tally-few columns [] range = record { searches = omega arith; updates = omega arith; passes = omega arith }
+tally-few columns (op ∷ ops) range =
+    let one = few-one columns op range.0 in
+    let rest = tally-few columns ops range.1 in
+    record { searches = omega (arith, one.searches, rest.searches); updates = omega (arith, one.updates, rest.updates); passes = omega (arith, one.passes, rest.passes) }

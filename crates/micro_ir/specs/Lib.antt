@@ -4,3 +4,7 @@ pub mod Listing
 pub mod Replay
 pub mod Steps
 pub mod Subs
+pub mod WorkRows
+pub mod Pieces
+pub mod Effects
+pub mod Tables

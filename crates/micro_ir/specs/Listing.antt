@@ -3,7 +3,7 @@ use Rattle.std.specs.Prelude.{ℕ, Bool, true, false, List, [], ◌∷◌, ◌++
 use Rattle.std.specs.Fmt.{decimal}
 use Rattle.bit_laws.specs.Digits.{hex_word}
 use Rattle.micro_ir.specs.declared.op.MicroOp.{MicroOp}
-use Rattle.micro_ir.specs.declared.op.MicroOp.TheVariants.{Search, Update, Pass, Window, Free}
+use Rattle.micro_ir.specs.declared.op.MicroOp.TheVariants.{Search, Update, Pass, Window, Free, PackMask}
 
 -- a flag is 0 or 1
 abbrev pub flag : Bool → List ℕ
@@ -31,3 +31,4 @@ listing_text (Update subs row bit) = codes "update " ++ hex_word subs ++ numbers
 listing_text (Pass up times) = codes "pass" ++ flags (up ∷ []) ++ numbers (times ∷ [])
 listing_text (Window row width first from to masked) = codes "window" ++ numbers (row ∷ width ∷ first ∷ from ∷ to ∷ []) ++ flags (masked ∷ [])
 listing_text (Free row width first from to masked tail off) = codes "free" ++ numbers (row ∷ width ∷ first ∷ from ∷ to ∷ []) ++ flags (masked ∷ tail ∷ off ∷ [])
+listing_text (PackMask from under to width first) = codes "packmask" ++ numbers (from ∷ under ∷ to ∷ width ∷ first ∷ [])

@@ -4,9 +4,9 @@ use Rattle.bit_rows.specs.Slices.{Slices}
 use Rattle.cam_chain.specs.Slices.{searched, updated, passed}
 use Rattle.cam_chain.specs.ChainValue.{ChainValue, slices_of, no_counts}
 use Rattle.cam_chain.specs.declared.counts.Counts.{Counts}
-use Rattle.steer_net.specs.Network.{windowed, freed, is_width, MaskReaches}
+use Rattle.steer_net.specs.Network.{windowed, freed, packed, is_width, MaskReaches, PackReaches}
 use Rattle.micro_ir.specs.declared.op.MicroOp.{MicroOp}
-use Rattle.micro_ir.specs.declared.op.MicroOp.TheVariants.{Search, Update, Pass, Window, Free}
+use Rattle.micro_ir.specs.declared.op.MicroOp.TheVariants.{Search, Update, Pass, Window, Free, PackMask}
 
 -- what one operation does
 abbrev pub effect : MicroOp → Slices → Slices
@@ -15,6 +15,7 @@ effect (Update subs row bit) s = updated subs row bit s
 effect (Pass up times) s = passed up times s
 effect (Window row width first from to masked) s = windowed row width first from to masked s
 effect (Free row width first from to masked tail off) s = freed row width first from to masked tail off s
+effect (PackMask from under to width first) s = packed from under to width first s
 
 -- what a list of operations does, in its order
 unfoldable pub replay : List MicroOp → Slices → Slices
@@ -26,7 +27,7 @@ abbrev pub state_of : ChainValue → ℕ → Slices
 state_of chain num = record (slices_of chain) { num = num }
 
 -- A chain of so many columns can run the operation: rows are below 64, widths are built, a pass moves tags by 1 to 31
--- subarrays, and the bits of the mask that an operation names lie in the register.
+-- subarrays, and the bits of a mask that an operation reads or packs lie in its register.
 abbrev pub IsInRange : ℕ → MicroOp → Type 0
 IsInRange columns (Search subs keys join) = Unit {0}
 IsInRange columns (Update subs row bit) = row < 64
@@ -35,6 +36,8 @@ IsInRange columns (Window row width first from to masked) =
     (row < 64) × (is_width width ≡ true) × (masked ≡ true → MaskReaches columns width first from to)
 IsInRange columns (Free row width first from to masked tail off) =
     (row < 64) × (is_width width ≡ true) × (masked ≡ true → off ≡ true → MaskReaches columns width first from to)
+IsInRange columns (PackMask from under to width first) =
+    (from < 64) × (under < 64) × (to < 64) × (is_width width ≡ true) × PackReaches columns width first
 
 -- a chain of so many columns can run each operation of the list
 unfoldable pub AllInRange : ℕ → List MicroOp → Type 0
@@ -48,6 +51,7 @@ counts_in (Update subs row bit) = record { searches = 0; updates = 1; passes = 0
 counts_in (Pass up times) = record { searches = 0; updates = 0; passes = times }
 counts_in (Window row width first from to masked) = no_counts
 counts_in (Free row width first from to masked tail off) = no_counts
+counts_in (PackMask from under to width first) = no_counts
 
 -- two counts together
 abbrev pub counts_and : Counts → Counts → Counts

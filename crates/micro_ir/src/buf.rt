@@ -107,7 +107,7 @@ fn add(counts: &mut Counts, op: &MicroOp)
         MicroOp::Search { .. } => counts.searches += 1,
         MicroOp::Update { .. } => counts.updates += 1,
         MicroOp::Pass { times, .. } => counts.passes += u128::from(*times),
-        MicroOp::Window { .. } | MicroOp::Free { .. } => {}
+        MicroOp::Window { .. } | MicroOp::Free { .. } | MicroOp::PackMask { .. } => {}
     }
 }
 

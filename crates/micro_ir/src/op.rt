@@ -45,4 +45,14 @@ pub enum MicroOp {
         tail: bool,
         off: bool,
     },
+    /// Each element of `width` bits whose highest bit in the row `under` is 1 writes its highest bit
+    /// in the row `from` into a bit of the row `to`: the one of its number, which is `first` for the
+    /// first element of the row.
+    PackMask {
+        from: u8,
+        under: u8,
+        to: u8,
+        width: u8,
+        first: u32,
+    },
 }

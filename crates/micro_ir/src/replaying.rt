@@ -5,7 +5,7 @@ use crate::buf::MicroBuf;
 use crate::control::Control;
 use crate::op::MicroOp;
 use cam_chain::Chain;
-use steer_net::{free, window};
+use steer_net::{free, pack_mask, window};
 
 /// Carries out the first `first` operations in their order. The chain counts their searches,
 /// updates and passes. No operation that is built changes a control number.
@@ -62,6 +62,13 @@ fn apply(chain: &mut Chain, op: &MicroOp)
         } => free(
             chain, *row, *width, *first, *from, *to, *masked, *tail, *off,
         ),
+        MicroOp::PackMask {
+            from,
+            under,
+            to,
+            width,
+            first,
+        } => pack_mask(chain, *from, *under, *to, *width, *first),
     }
 }
 

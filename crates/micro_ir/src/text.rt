@@ -73,6 +73,20 @@ pub fn listing(op: &MicroOp, line: &mut LineBuf)
             push_flag(line, *tail);
             push_flag(line, *off);
         }
+        MicroOp::PackMask {
+            from,
+            under,
+            to,
+            width,
+            first,
+        } => {
+            line.push_str("packmask");
+            push_number(line, u32::from(*from));
+            push_number(line, u32::from(*under));
+            push_number(line, u32::from(*to));
+            push_number(line, u32::from(*width));
+            push_number(line, *first);
+        }
     }
 }
 
@@ -216,6 +230,16 @@ mod tests {
                     off: false,
                 },
                 "free 52 8 0 0 3 0 1 0",
+            ),
+            (
+                MicroOp::PackMask {
+                    from: 41,
+                    under: 32,
+                    to: 1,
+                    width: 8,
+                    first: 0,
+                },
+                "packmask 41 32 1 8 0",
             ),
         ] {
             listing(&op, &mut line);

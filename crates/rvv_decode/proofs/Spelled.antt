@@ -1,5 +1,5 @@
 -- The fields of the instruction that a word means are in range, and give the word back.
-use Rattle.std.proofs.Common.{◌≡◌, ℕ, ◌+◌, ◌*◌, ◌-◌, ◌/◌, ◌%◌, ◌^◌, ◌<◌, ◌⊎◌, Bool, true, false, cond, List, [], ◌∷◌, Option, Some, None, refl, sym, ◌∙◌, ap, subst, arith, rules}
+use Rattle.std.proofs.Common.{◌≡◌, ℕ, ◌+◌, ◌*◌, ◌-◌, ◌/◌, ◌%◌, ◌^◌, ◌<◌, ◌⊎◌, Bool, true, false, Option, Some, None, refl, sym, ◌∙◌, ap, subst, arith, rules}
 use Rattle.std.specs.Prelude.{bit_and, ◌==◌, ◌&&◌, ◌||◌, IfSome}
 use Rattle.std.specs.List.{list_all}
 use Rattle.std.specs.Int.{from_bool}
@@ -7,8 +7,9 @@ use Rattle.std.proofs.lemmas.Grind.{common_steps}
 use Rattle.std.proofs.lemmas.Bool.{eqb-true, eqb-false, and_parts, false≢true}
 use Rattle.std.proofs.lemmas.Nat.{and_mask, and_block, pow_pos, mod_below}
 use Rattle.word_rows.specs.Field.{field}
-use Rattle.word_rows.specs.Rows.{Row, fits, look_up}
+use Rattle.word_rows.specs.Rows.{Row, look_up}
 use Rattle.word_rows.proofs.Walk.{narrower}
+use Rattle.rvv_decode.proofs.Found.{found_row}
 use Rattle.rvv_decode.specs.Layouts.{Kind, Layout, arithmetic, memory, immediate_type, both_immediate, both_registers, instruction, instruction_of}
 use Rattle.rvv_decode.specs.OpiRows.{opi_rows, opi_funct3}
 use Rattle.rvv_decode.specs.OpmRows.{opm_rows, opm_funct3}
@@ -79,26 +80,20 @@ unfolding rows opi_rows opm_rows config_rows load_rows store_rows
 rows-sound = refl
 
 -- what a sound row says of a word that fits it
-record Found (k : Kind) (w : ℕ) : Type 0 where
+record Sound (k : Kind) (w : ℕ) : Type 0 where
   suited : suits k.0 k.1 ≡ true
   bits : bit_and w (fixed k.1) ≡ fixed_value k.0 k.1
 
-found_row : (rs : List (Row Kind)) (w : ℕ) (k : Kind) → list_all is_sound rs ≡ true → look_up rs w ≡ Some k → Found k w
-found_row [] w k sound e = cc
-found_row (r ∷ rs) w k sound e =
-    let parts = and_parts (is_sound r) (list_all is_sound rs) sound in
-    go (fits r w) refl e parts.0 (found_row rs w k parts.1)
-  where
-    go : (b : Bool) → fits r w ≡ b → cond b (Some r.kind) (look_up rs w) ≡ Some k → is_sound r ≡ true → (look_up rs w ≡ Some k → Found k w) → Found k w
-    go true is found all rest =
-        let same : r.kind ≡ k = cc in
-        let outer = and_parts _ _ all in
-        let inner = and_parts _ _ outer.0 in
-        subst (λ z. Found z w) same (record {
-          suited = inner.0;
-          bits = narrower w r.mask r.value (fixed r.kind.1) (fixed_value r.kind.0 r.kind.1) (eqb-true _ _ is) (eqb-true _ _ inner.1) (eqb-true _ _ outer.1);
-        })
-    go false is found all rest = rest found
+sound_row : (w : ℕ) (k : Kind) → look_up rows w ≡ Some k → Sound k w
+sound_row w k is =
+    let found = found_row is_sound rows w k rows-sound is in
+    let r = found.row in
+    let outer = and_parts _ _ found.passed in
+    let inner = and_parts _ _ outer.0 in
+    subst (λ z. Sound z w) found.kind (record {
+      suited = inner.0;
+      bits = narrower w r.mask r.value (fixed r.kind.1) (fixed_value r.kind.0 r.kind.1) (eqb-true _ _ found.fit) (eqb-true _ _ inner.1) (eqb-true _ _ outer.1);
+    })
 
 -- what is known of an instruction that a word means
 pub record Read (op : VOp) (i : VInstr) (w : ℕ) : Type 0 where
@@ -118,7 +113,7 @@ read_row (Config Vsetivli) both_immediate w e h s = record { word = s; name = om
 read_row (Config Vsetvl) both_registers w e h s = record { word = s; name = tt; range = search rules }
 read_row _ _ w e h s = absurd (false≢true e)
 
-op-instruction : (l : Layout) (op : VOp) (w : ℕ) → (instruction l op w).op ≡ op
+pub op-instruction : (l : Layout) (op : VOp) (w : ℕ) → (instruction l op w).op ≡ op
 op-instruction (arithmetic form) op w = refl
 op-instruction (memory eew) op w = refl
 op-instruction immediate_type op w = refl
@@ -134,7 +129,7 @@ read op i w named h e = go (look_up rows w) refl e
     go (Some k) is found =
         let same : instruction k.1 k.0 w ≡ i = cc in
         let name : k.0 ≡ op = sym (op-instruction k.1 k.0 w) ∙ ap (λ (z : VInstr). z.op) same ∙ named in
-        let row = found_row rows w k rows-sound is in
+        let row = sound_row w k is in
         let all : Read k.0 (instruction k.1 k.0 w) w = read_row k.0 k.1 w row.suited h (rw (← row.bits) (whole k.1 k.0 w h)) in
         subst (λ z. Read z i w) name (subst (λ z. Read k.0 z w) same all)
 

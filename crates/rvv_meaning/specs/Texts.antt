@@ -1,25 +1,13 @@
 -- The lines that a command ends with.
-use Rattle.std.specs.Prelude.{ℕ, zero, suc, ◌+◌, ◌/◌, ◌%◌, ◌^◌, nat_lt, if◌then◌else◌, List, ◌∷◌, [], ◌++◌, codes}
+use Rattle.std.specs.Prelude.{ℕ, List, ◌∷◌, [], ◌++◌, codes}
 use Rattle.std.specs.Fmt.{decimal}
+use Rattle.bit_laws.specs.Digits.{hex_word}
 use Rattle.rvv_meaning.specs.declared.Mode.{Mode}
 use Rattle.rvv_meaning.specs.declared.Mode.TheVariants.{Running, Exited, Trapped, Unbuilt}
 use Rattle.rvv_meaning.specs.States.{State}
 
 abbrev pub newline : List ℕ
 newline = 10 ∷ []
-
--- a hexadecimal digit, in lower case
-abbrev pub hex_digit : ℕ → ℕ
-hex_digit d = if nat_lt d 10 then 48 + d else 87 + d
-
--- that many of the lowest hexadecimal digits of a number, the highest of them first
-abbrev pub hex_digits : ℕ → ℕ → List ℕ
-hex_digits zero value = []
-hex_digits (suc n) value = hex_digit (value / 16 ^ n % 16) ∷ hex_digits n value
-
--- a number of 32 bits, in eight hexadecimal digits
-unfoldable pub hex_word : ℕ → List ℕ
-hex_word value = hex_digits 8 value
 
 -- the line about how a run of n retired instructions ended
 abbrev pub report_at : Mode → ℕ → List ℕ

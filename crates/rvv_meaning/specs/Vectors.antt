@@ -1,4 +1,4 @@
--- What the vector instructions do that are built: configuration, and the bitwise operations and copies of elements.
+-- What the vector instructions do that are built: configuration, and operations on elements at the same place.
 use Rattle.std.specs.Prelude.{◌==◌, not, ℕ, Bool, true, false, List, Option, None, is_some, slice_index, if◌then◌else◌}
 use Rattle.std.specs.Option.{option_map_or}
 use Rattle.rvv_decode.specs.declared.instruction.ConfigOp.{ConfigOp}
@@ -11,7 +11,7 @@ use Rattle.rvv_decode.specs.declared.instruction.VOp.TheVariants.{Opi, Opm, Conf
 use Rattle.vtype_cfg.specs.declared.configuration.Avl.{Avl}
 use Rattle.vtype_cfg.specs.declared.configuration.Avl.TheVariants.{Given, Max, Keep}
 use Rattle.vtype_cfg.specs.declared.configuration.Cfg.{Cfg}
-use Rattle.rvv_meaning.specs.Arithmetic.{value_of, elementwise_of}
+use Rattle.rvv_meaning.specs.Arithmetic.{operation_for, elementwise_of}
 use Rattle.rvv_meaning.specs.Elementwise.{Elementwise, registers_after}
 
 -- how many elements a configuration asks for (vector extension 1.0, section 6.2): an immediate; or what x[rs1] holds where
@@ -41,14 +41,14 @@ scalar_operand i regs = scalar_in_form i.form i regs
 
 -- whether an operation is one on elements that is built
 abbrev pub on_elements_is_built : VOp → Bool
-on_elements_is_built (Opi op) = is_some (value_of op)
+on_elements_is_built (Opi op) = is_some (operation_for op)
 on_elements_is_built (Opm op) = false
 on_elements_is_built (Config op) = false
 on_elements_is_built (Memory op) = false
 
 -- whether an instruction is built
 abbrev pub is_built : VOp → Bool
-is_built (Opi op) = is_some (value_of op)
+is_built (Opi op) = is_some (operation_for op)
 is_built (Opm op) = false
 is_built (Config op) = true
 is_built (Memory op) = false

@@ -1,3 +1,4 @@
--- Rows that are written place by place, and the mask.
+-- Rows that are written place by place, the mask, and bits that are packed into a row.
 pub mod Parts
 pub mod Mask
+pub mod Packed

@@ -1,4 +1,4 @@
--- Words of a register that are read bit by bit.
+-- Words of a row that are read bit by bit, and the mask.
 use Rattle.std.proofs.Common.{◌≡◌, ℕ, ◌+◌, ◌*◌, ◌^◌, ◌%◌, ◌<◌, ◌≤◌, Bool, true, false, cond, ◌&&◌, ◌||◌, not, eqb, leb, List, refl, ap, ◌∙◌, arith, ⊎_elim, bit_or, w32}
 use mathlib.Core.Bool.{beq}
 use Rattle.std.specs.Int.{bit_at}
@@ -11,14 +11,14 @@ use Rattle.steer_net.specs.Rows.{mask_bit, is_one}
 use Rattle.steer_net.proofs.Parts.{numbered_same}
 
 -- the bits of the word below i are read, and the others are 0
-pub record Reading (s : Slices) (col i word : ℕ) : Type 0 where
-  pub done : (k : ℕ) → k < i → eqb (bit_at word k) 1 ≡ s.bit k 0 col
+pub record Reading (s : Slices) (row col i word : ℕ) : Type 0 where
+  pub done : (k : ℕ) → k < i → eqb (bit_at word k) 1 ≡ s.bit k row col
   pub todo : (k : ℕ) → i ≤ k → bit_at word k ≡ 0
 
 -- the next bit is set
-pub read_set : (s : Slices) (col i word : ℕ) → Reading s col i word → i < 32 → true ≡ s.bit i 0 col
-    → Reading s col (i + 1) (bit_or word (1 * 2 ^ i % 2 ^ 32))
-read_set s col i word p h e = record {
+pub read_set : (s : Slices) (row col i word : ℕ) → Reading s row col i word → i < 32 → true ≡ s.bit i row col
+    → Reading s row col (i + 1) (bit_or word (1 * 2 ^ i % 2 ^ 32))
+read_set s row col i word p h e = record {
   done = λ k l. ⊎_elim
       (λ (q : k ≡ i). rw (q, bit_at_set_same w32 word i h) e)
       (λ (q : k ≡ i → ⊥). rw (bit_at_set_other w32 word i h k q) (p.done k (omega arith))) (cases_eq k i);
@@ -26,8 +26,8 @@ read_set s col i word p h e = record {
 }
 
 -- the next bit is clear
-pub read_skip : (s : Slices) (col i word : ℕ) → Reading s col i word → false ≡ s.bit i 0 col → Reading s col (i + 1) word
-read_skip s col i word p e = record {
+pub read_skip : (s : Slices) (row col i word : ℕ) → Reading s row col i word → false ≡ s.bit i row col → Reading s row col (i + 1) word
+read_skip s row col i word p e = record {
   done = λ k l. ⊎_elim
       (λ (q : k ≡ i). rw (q, p.todo i (omega arith)) e)
       (λ (q : k ≡ i → ⊥). p.done k (omega arith)) (cases_eq k i);

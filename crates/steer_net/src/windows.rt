@@ -6,13 +6,13 @@ ghost use Rattle.steer_net.specs.Rows.{mask_bit, is_one, partly, is_between};
 use bit_rows::Planes;
 
 // A chain has at most so many columns.
-const MAX_COLUMNS: usize = 2048;
+pub(crate) const MAX_COLUMNS: usize = 2048;
 
 // Each column of a row has a bit in each subarray.
-const SUBARRAYS: u8 = 32;
+pub(crate) const SUBARRAYS: u8 = 32;
 
 // The register that is the mask.
-const MASK: u8 = 0;
+pub(crate) const MASK: u8 = 0;
 
 /// Which elements of a row become ones: `on` and `off` say it of an element from `from` on and
 /// below `to`, where its bit of the mask is 1 and where it is 0, and `tail` says it of an element
@@ -103,33 +103,53 @@ fn write_ones<P: Planes>(p: &mut P, row: u8, width: u8, first: u32, ones: Ones)
 {
     let mut mask = [0; MAX_COLUMNS];
     if ones.on != ones.off {
-        read_mask(p, &mut mask);
+        read_row(p, MASK, &mut mask);
     }
     write_row(p, row, width, first, ones, &mask);
 }
 
-/// Reads register 0 into words of its columns.
-fn read_mask<P: Planes>(p: &P, mask: &mut [u32; MAX_COLUMNS])
+/// Reads a row into words of its columns.
+pub(crate) fn read_row<P: Planes>(p: &P, row: u8, words: &mut [u32; MAX_COLUMNS])
+    requires { row < 64 }
     ensures { (e : ℕ) → e < 32 * (P.slices p.now).columns
-        → mask_bit mask.new e ≡ bit_in (P.slices p.now) 0 e }
+        → mask_bit words.new e ≡ bit_in (P.slices p.now) row e }
 {
     for col in 0..p.columns() {
-        mask[col as usize] = mask_word(p, col);
+        words[col as usize] = row_word(p, row, col);
     }
 }
 
-/// The word of a column of register 0: bit s of it is the bit in subarray s.
-fn mask_word<P: Planes>(p: &P, col: u32) -> u32
-    requires { col < (P.slices p.now).columns }
-    ensures { (s : ℕ) → s < 32 → eqb (bit_at result s) 1 ≡ (P.slices p.now).bit s 0 col }
+/// The word of a column of a row: bit s of it is the bit in subarray s.
+fn row_word<P: Planes>(p: &P, row: u8, col: u32) -> u32
+    requires row { row < 64 }
+    requires column { col < (P.slices p.now).columns }
+    ensures { (s : ℕ) → s < 32 → eqb (bit_at result s) 1 ≡ (P.slices p.now).bit s row col }
 {
     let mut word = 0u32;
     for sub in 0..SUBARRAYS {
-        if p.bit(sub, MASK, col) {
+        if p.bit(sub, row, col) {
             word |= 1 << sub;
         }
     }
     word
+}
+
+/// Writes a row by the words of its columns.
+pub(crate) fn write_words<P: Planes>(p: &mut P, row: u8, words: &[u32; MAX_COLUMNS])
+    requires { row < 64 }
+    ensures slices { P.slices p.new ≡ numbered row 1 0 (mask_bit words.now) (P.slices p.old) }
+    ensures searches { P.searches p.new ≡ P.searches p.old }
+    ensures updates { P.updates p.new ≡ P.updates p.old }
+    ensures passes { P.passes p.new ≡ P.passes p.old }
+{
+    let ones = Ones {
+        from: 0,
+        to: u32::from(SUBARRAYS) * p.columns(),
+        on: true,
+        off: false,
+        tail: false,
+    };
+    write_row(p, row, 1, 0, ones, words);
 }
 
 /// Writes the row by a mask.
@@ -229,91 +249,7 @@ fn is_set(mask: &[u32; MAX_COLUMNS], number: u64) -> bool
 #[cfg(test)]
 mod tests {
     use super::*;
-    use std::test::Fail;
-
-    const COLUMNS: u32 = 2;
-
-    const ROWS: usize = 64;
-
-    /// Two columns of bits, where a place goes by its column, then its row, then its subarray.
-    #[derive(Drop)]
-    struct Board {
-        bits: [bool; 4096],
-    }
-
-    /// Where a bit of a board lies.
-    fn place(sub: u8, row: u8, col: u32) -> usize
-        requires sub { sub < 32 }
-        requires row { row < 64 }
-        requires column { col < 2 }
-        ensures value { result ≡ 2048 * col + 32 * row + sub }
-        ensures inside { result < 4096 }
-    {
-        ROWS * usize::from(SUBARRAYS) * col as usize
-            + usize::from(SUBARRAYS) * usize::from(row)
-            + usize::from(sub)
-    }
-
-    impl Planes for Board {
-        ghost use Rattle.std.specs.Prelude.{Bool, false, cond, ◌&&◌, slice_index_or};
-        ghost use lib.Dec.{ltb};
-        ghost use Rattle.bit_rows.specs.Slices.{placed};
-
-        ghost slices = { λ b. record {
-          columns = 2;
-          bit = λ sub row col. cond (placed 2 sub col && ltb row 64) (slice_index_or b.bits (2048 * col + 32 * row + sub) false) false;
-          tag = λ sub col. false;
-          num = 0;
-        } };
-
-        ghost searches = { λ b. 0 };
-
-        ghost updates = { λ b. 0 };
-
-        ghost passes = { λ b. 0 };
-
-        fn columns(&self) -> u32 {
-            COLUMNS
-        }
-
-        fn bit(&self, sub: u8, row: u8, col: u32) -> bool {
-            self.bits[place(sub, row, col)]
-        }
-
-        fn set_bit(&mut self, sub: u8, row: u8, col: u32, bit: bool) {
-            self.bits[place(sub, row, col)] = bit;
-        }
-
-        fn tag(&self, _sub: u8, _col: u32) -> bool {
-            false
-        }
-    }
-
-    /// The two words of a row.
-    fn words(board: &Board, row: u8) -> [u32; 2]
-        requires { row < 64 }
-    {
-        let mut words = [0; 2];
-        for col in 0..COLUMNS {
-            for sub in 0..SUBARRAYS {
-                if board.bit(sub, row, col) {
-                    words[col as usize] |= 1 << sub;
-                }
-            }
-        }
-        words
-    }
-
-    /// A board whose register 0 has the bits 0, 2, 4, 5, 32 and 33.
-    fn masked_board() -> Board {
-        let mut board = Board {
-            bits: [false; 4096],
-        };
-        for (sub, col) in [(0, 0), (2, 0), (4, 0), (5, 0), (0, 1), (1, 1)] {
-            board.set_bit(sub, MASK, col, true);
-        }
-        board
-    }
+    use crate::board::{masked_board, words};
 
     #[test]
     fn windows_of_each_width(rt: HostRuntime) {

@@ -1,131 +1,83 @@
--- The operations of the pieces, written out. They are the same at every width of elements.
-use Rattle.std.proofs.Common.{◌≡◌, ◌⊎◌, inl, inr, ℕ, ◌-◌, Bool, true, false, cond, ◌&&◌, ◌||◌, eqb, ltb, leb, List, [], ◌∷◌, ◌++◌, map, refl, sym, subst, arith}
-use Rattle.std.proofs.lemmas.Bool.{le-leb}
-use Rattle.bit_laws.specs.Numbers.{bit_of}
-use Rattle.micro_ir.specs.declared.op.MicroOp.{MicroOp}
-use Rattle.micro_ir.specs.declared.op.MicroOp.TheVariants.{Search, Update}
-use Rattle.micro_ir.specs.Subs.{subs_of}
-use Rattle.micro_ir.proofs.Subs.{sets-same}
-use Rattle.micro_ir.specs.Steps.{micro, micros}
-use Rattle.frame_laws.specs.WorkRows.{result_row}
-use Rattle.frame_laws.specs.Pieces.{everywhere, clear, commit, fill_step, splat}
-use Rattle.gen_logic.specs.Recipes.{table_steps, of_rows, has, once, move_steps, and_on, or_on, xor_on}
+-- The programs as the code writes them.
+use Rattle.std.proofs.Common.{◌≡◌, ℕ, ◌+◌, ◌*◌, ◌%◌, ◌<◌, ◌≤◌, Bool, true, false, cond, [], ◌++◌, zero, suc, refl, arith, ⊎_elim}
+use Rattle.std.proofs.lemmas.Bool.{cases_lt}
+use Rattle.std.proofs.Math.Nat.{mod-eq_of_lt}
+use Rattle.rvv_decode.specs.declared.instruction.OpiOp.{OpiOp}
+use Rattle.rvv_decode.specs.declared.instruction.VInstr.{VInstr}
+use Rattle.vtype_cfg.specs.declared.configuration.Cfg.{Cfg}
+use Rattle.vec_exec.specs.Kinds.{each_of, truth_each_of, operations_in}
+use Rattle.vec_exec.specs.Programs.{free_count, register_list, registers_list, mask_register_list, mask_registers_list}
+use Rattle.vec_exec.proofs.GoodKinds.{each-few, truth-each-few}
 
--- a search in all subarrays and an update of what it finds
-abbrev pub found : List (ℕ × Bool) → ℕ → Bool → List MicroOp
-found keys row bit = Search 4294967295 keys false ∷ Update 4294967295 row bit ∷ []
+-- a width that divides a word is at most one
+pub width-most : (w : ℕ) → 32 % w ≡ 0 → w ≤ 32
+width-most w divides =
+    ⊎_elim
+    (λ (l : 32 < w). let e : 32 % w ≡ 32 = mod-eq_of_lt l in absurd (omega (arith, divides, e)))
+    (λ (l : w ≤ 32). l)
+    (cases_lt 32 w)
 
-pub clear-ops : (row : ℕ) → micro 32 (clear 32 row) ≡ found [] row false
-unfolding micro subs_of
-clear-ops row = refl
+pub flag-few : (b : Bool) (n : ℕ) → cond b n 0 ≤ n
+flag-few true n = omega arith
+flag-few false n = omega arith
 
-pub commit-ops : (to : ℕ) → micros 32 (commit 32 36 to) ≡ found ((32, true) ∷ (36, true) ∷ []) to true ++ found ((32, true) ∷ (36, false) ∷ []) to false
-unfolding micros micro subs_of
-commit-ops to = refl
+-- ---- registers
 
-pub fill-ops : (to : ℕ) → micros 32 (fill_step 32 to ∷ []) ≡ found ((52, true) ∷ []) to true
-unfolding micros micro subs_of
-fill-ops to = refl
+module _ (op : OpiOp) (i : VInstr) (c : Cfg) where
+  pub registers-none : registers_list op i c 0 ≡ []
+  unfolding registers_list
+  registers-none = refl
 
-pub copy-ops : (row : ℕ) → micro 32 (everywhere 32 (row ∷ []) (1 ∷ []) 36 true) ≡ found ((row, true) ∷ []) 36 true
-unfolding micro subs_of
-copy-ops row = refl
+  pub registers-more : (g : ℕ) → registers_list op i c (g + 1) ≡ registers_list op i c g ++ register_list op i c g
+  unfolding registers_list
+  registers-more g = let e : g + 1 ≡ suc g = omega arith in rw e refl
 
-abbrev pub two : List (ℕ × Bool) → List (ℕ × Bool) → List MicroOp
-two first second = Search 4294967295 first false ∷ Search 4294967295 second true ∷ Update 4294967295 36 true ∷ []
+  pub mask-registers-none : mask_registers_list op i c 0 ≡ []
+  unfolding mask_registers_list
+  mask-registers-none = refl
 
-abbrev pub three : List (ℕ × Bool) → List (ℕ × Bool) → List (ℕ × Bool) → List MicroOp
-three first second third = Search 4294967295 first false ∷ Search 4294967295 second true ∷ Search 4294967295 third true ∷ Update 4294967295 36 true ∷ []
+  pub mask-registers-more : (g : ℕ) → mask_registers_list op i c (g + 1) ≡ mask_registers_list op i c g ++ mask_register_list op i c g
+  unfolding mask_registers_list
+  mask-registers-more g = let e : g + 1 ≡ suc g = omega arith in rw e refl
 
-module _ (a b : ℕ) where
-  pub and-same : eqb a b ≡ true → micro 32 (of_rows 32 and_on a b) ≡ found ((a, true) ∷ []) 36 true
-  unfolding micro subs_of
-  and-same same = rw same refl
+-- the operations on a register are few
+pub register-few : (op : OpiOp) (reads ones : Bool) (w : ℕ) → 0 < w → w ≤ 32 → 1 + cond reads 1 0 + cond ones 3 0 + operations_in (each_of op reads w) ≤ 400
+register-few op reads ones w some most =
+    let few : operations_in (each_of op reads w) ≤ 11 * w + 11 = each-few op reads w some in
+    let r : cond reads 1 0 ≤ 1 = flag-few reads 1 in
+    let o : cond ones 3 0 ≤ 3 = flag-few ones 3 in
+    omega arith
 
-  pub and-apart : eqb a b ≡ false → micro 32 (of_rows 32 and_on a b) ≡ found ((a, true) ∷ (b, true) ∷ []) 36 true
-  unfolding micro subs_of
-  and-apart apart = rw apart refl
+pub mask-register-few : (op : OpiOp) (reads : Bool) (w : ℕ) → 0 < w → w ≤ 32 → 2 + cond reads 1 0 + operations_in (truth_each_of op reads w) ≤ 399
+mask-register-few op reads w some most =
+    let few : operations_in (truth_each_of op reads w) ≤ 8 * w + 5 = truth-each-few op reads w some in
+    let r : cond reads 1 0 ≤ 1 = flag-few reads 1 in
+    omega arith
 
-  pub or-same : eqb a b ≡ true → micro 32 (of_rows 32 or_on a b) ≡ three ((a, true) ∷ []) ((a, true) ∷ []) ((a, true) ∷ [])
-  unfolding micro subs_of
-  or-same same = rw same refl
+-- ---- the free bits of a mask
 
-  pub or-apart : eqb a b ≡ false → micro 32 (of_rows 32 or_on a b) ≡ three ((a, true) ∷ (b, false) ∷ []) ((a, false) ∷ (b, true) ∷ []) ((a, true) ∷ (b, true) ∷ [])
-  unfolding micro subs_of
-  or-apart apart = rw apart refl
+-- the operations that mark them, with the first registers
+abbrev pub free_so_far : (ones : Bool) → (g : ℕ) → ℕ
+free_so_far ones zero = 0
+free_so_far ones (suc g) = cond ones 1 0
 
-  pub xor-same : eqb a b ≡ true → micro 32 (of_rows 32 xor_on a b) ≡ two ((36, true) ∷ []) ((36, true) ∷ [])
-  unfolding micro subs_of
-  xor-same same = rw same refl
+pub free-few : (ones : Bool) (g : ℕ) → free_so_far ones g ≤ 1
+free-few ones zero = omega arith
+free-few ones (suc g) = flag-few ones 1
 
-  pub xor-apart : eqb a b ≡ false → micro 32 (of_rows 32 xor_on a b) ≡ two ((a, true) ∷ (b, false) ∷ []) ((a, false) ∷ (b, true) ∷ [])
-  unfolding micro subs_of
-  xor-apart apart = rw apart refl
+pub free_count-few : (ones : Bool) (g : ℕ) → free_count ones g ≤ 1
+free_count-few ones zero = flag-few ones 1
+free_count-few ones (suc g) = omega arith
 
-  pub table-pieces : (on : List ℕ) (to : ℕ) → micros 32 (table_steps 32 on a b to) ≡ micro 32 (clear 32 36) ++ (micro 32 (of_rows 32 on a b) ++ micros 32 (commit 32 36 to))
-  unfolding micros table_steps
-  table-pieces on to = refl
+pub free-more : (ones : Bool) (g : ℕ) → free_so_far ones (g + 1) ≡ free_so_far ones g + free_count ones g
+free-more ones zero = let e : 0 + 1 ≡ suc 0 = omega arith in rw e (omega arith)
+free-more ones (suc g) = let e : suc g + 1 ≡ suc (suc g) = omega arith in rw e (omega arith)
 
-pub move-pieces : (row to : ℕ) → micros 32 (move_steps 32 row to) ≡ micro 32 (clear 32 36) ++ (micro 32 (everywhere 32 (row ∷ []) (1 ∷ []) 36 true) ++ micros 32 (commit 32 36 to))
-unfolding micros move_steps
-move-pieces row to = refl
+pub free-all : (ones : Bool) (g : ℕ) → 0 < g → free_so_far ones g ≡ cond ones 1 0
+free-all ones zero some = absurd (omega arith)
+free-all ones (suc g) some = refl
 
--- ---- at every width
-
--- the widths of elements
-abbrev pub IsElementWidth : ℕ → Type 0
-IsElementWidth w = (w ≡ 8) ⊎ ((w ≡ 16) ⊎ (w ≡ 32))
-
-everywhere-at : (w : ℕ) (inputs on : List ℕ) (out : ℕ) (bit : Bool) → IsElementWidth w → micro w (everywhere w inputs on out bit) ≡ micro 32 (everywhere 32 inputs on out bit)
-unfolding micro subs_of
-everywhere-at w inputs [] out bit wide = refl
-everywhere-at w inputs (t ∷ ts) out bit (inl is) = subst (λ v. micro v (everywhere v inputs (t ∷ ts) out bit) ≡ micro 32 (everywhere 32 inputs (t ∷ ts) out bit)) (sym is) refl
-everywhere-at w inputs (t ∷ ts) out bit (inr (inl is)) = subst (λ v. micro v (everywhere v inputs (t ∷ ts) out bit) ≡ micro 32 (everywhere 32 inputs (t ∷ ts) out bit)) (sym is) refl
-everywhere-at w inputs (t ∷ ts) out bit (inr (inr is)) = subst (λ v. micro v (everywhere v inputs (t ∷ ts) out bit) ≡ micro 32 (everywhere 32 inputs (t ∷ ts) out bit)) (sym is) refl
-
-commit-at : (w row to : ℕ) → IsElementWidth w → micros w (commit w row to) ≡ micros 32 (commit 32 row to)
-unfolding micros
-commit-at w row to wide = rw (everywhere-at w (32 ∷ row ∷ []) (3 ∷ []) to true wide, everywhere-at w (32 ∷ row ∷ []) (1 ∷ []) to false wide) refl
-
-rows-at : (w : ℕ) (on : List ℕ) (a b : ℕ) → IsElementWidth w → micro w (of_rows w on a b) ≡ micro 32 (of_rows 32 on a b)
-rows-at w on a b wide = by (eqb a b) refl
-  where
-    one : (c : Bool) → micro w (cond c (everywhere w (a ∷ []) (map (once on) on) result_row true) (everywhere w (result_row ∷ []) (map (λ t. 1) on) result_row true))
-        ≡ micro 32 (cond c (everywhere 32 (a ∷ []) (map (once on) on) result_row true) (everywhere 32 (result_row ∷ []) (map (λ t. 1) on) result_row true))
-    one true = everywhere-at w (a ∷ []) _ result_row true wide
-    one false = everywhere-at w (result_row ∷ []) _ result_row true wide
-
-    by : (c : Bool) → eqb a b ≡ c → micro w (of_rows w on a b) ≡ micro 32 (of_rows 32 on a b)
-    by true same = rw same (one (has 0 on || has 3 on))
-    by false apart = rw apart (everywhere-at w (a ∷ b ∷ []) on result_row true wide)
-
-pub table-at : (w : ℕ) (on : List ℕ) (a b to : ℕ) → IsElementWidth w → micros w (table_steps w on a b to) ≡ micros 32 (table_steps 32 on a b to)
-unfolding micros table_steps
-table-at w on a b to wide = rw (everywhere-at w [] (0 ∷ []) result_row false wide, rows-at w on a b wide, commit-at w result_row to wide) refl
-
-pub move-at : (w row to : ℕ) → IsElementWidth w → micros w (move_steps w row to) ≡ micros 32 (move_steps 32 row to)
-unfolding micros move_steps
-move-at w row to wide = rw (everywhere-at w [] (0 ∷ []) result_row false wide, everywhere-at w (row ∷ []) (1 ∷ []) result_row true wide, commit-at w result_row to wide) refl
-
-pub fill-at : (w to : ℕ) → IsElementWidth w → micros w (fill_step w to ∷ []) ≡ micros 32 (fill_step 32 to ∷ [])
-unfolding micros
-fill-at w to wide = rw (everywhere-at w (52 ∷ []) (1 ∷ []) to true wide) refl
-
-pub clear-at : (w row : ℕ) → IsElementWidth w → micro w (clear w row) ≡ micro 32 (clear 32 row)
-clear-at w row wide = everywhere-at w [] (0 ∷ []) row false wide
-
--- the set of subarrays where a scalar has ones, at w bits
-abbrev pub ones_at : (w scalar : ℕ) → ℕ
-ones_at w scalar = subs_of w (λ j. ltb j w && bit_of scalar j)
-
--- a step that does not move writes where it reads
-still : (w : ℕ) (set : ℕ → Bool) → subs_of w (λ j. leb 0 j && set (j - 0)) ≡ subs_of w set
-still w set = sets-same w (λ j. leb 0 j && set (j - 0)) set (λ j. let z : j - 0 ≡ j = omega arith in rw (le-leb 0 j (omega arith), z) refl)
-
-splat-step : (w scalar : ℕ) → micro w (record { inputs = []; on = 0 ∷ []; out = 34; bit = true; at = λ j. ltb j w && bit_of scalar j; up = true; times = 0 }) ≡ Search (ones_at w scalar) [] false ∷ Update (ones_at w scalar) 34 true ∷ []
-unfolding micro
-splat-step w scalar = rw (still w (λ j. ltb j w && bit_of scalar j)) refl
-
-pub splat-ops : (w scalar : ℕ) → IsElementWidth w → micros w (splat w scalar) ≡ micro 32 (clear 32 34) ++ (Search (ones_at w scalar) [] false ∷ Update (ones_at w scalar) 34 true ∷ [])
-unfolding micros splat
-splat-ops w scalar wide = rw (clear-at w 34 wide, splat-step w scalar) refl
+-- the operations of a fill: one marks, a search and an update
+pub fill-parts : (ones : Bool) → cond ones 3 0 ≡ cond ones 2 0 + cond ones 1 0
+fill-parts true = refl
+fill-parts false = refl

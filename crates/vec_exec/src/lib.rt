@@ -1,8 +1,11 @@
 //! Plans of vector instructions: the list of micro-operations by which an associative memory carries one out.
 #![tactic(auto)]
 
-mod pieces;
+mod kinds;
+mod operands;
 mod planning;
-mod splat;
+mod registers;
+#[cfg(test)]
+mod tests;
 
 pub use planning::{engine, plan};

@@ -6,29 +6,34 @@ ghost use Rattle.rvv_decode.specs.declared.instruction.VOp.TheVariants.{Opi};
 ghost use Rattle.vtype_cfg.specs.Legality.{is_legal};
 ghost use Rattle.vtype_cfg.specs.Settings.{is_valid};
 ghost use Rattle.legal_groups.specs.Facts.{group_count};
-ghost use Rattle.rvv_meaning.specs.Arithmetic.{value_of};
+ghost use Rattle.rvv_meaning.specs.Arithmetic.{operation_for};
 ghost use Rattle.rvv_meaning.specs.Elementwise.{is_ones};
 ghost use Rattle.rvv_meaning.specs.Vectors.{on_elements_is_built};
-ghost use Rattle.frame_classes.specs.Operands.{row_of};
 ghost use Rattle.frame_meaning.specs.Shapes.{has_scalar};
-ghost use Rattle.vec_exec.specs.Kinds.{kind_of, long_of, operands_of};
-ghost use Rattle.vec_exec.specs.Programs.{prog, is_engine, Realises, cost, fill_list, register_list, registers_list, scalar_list, IsElementWidth, IsPlaced};
+ghost use Rattle.vec_exec.specs.Kinds.{operation_in, IsElementWidth};
+ghost use Rattle.vec_exec.specs.Programs.{prog, program_in, is_engine, Realises, cost, scalar_list, reads, masked};
 
-use crate::pieces::{emit_and, emit_fill, emit_move, emit_or, emit_xor};
-use crate::splat::{SCALAR_ROW, emit_splat, immediate};
-use mask_window::{active, free};
+use crate::operands::{at_rows, immediate};
+use crate::registers::{MaskUse, emit_mask_fill, emit_mask_registers, emit_registers};
+use bit_laws::{W8, W16, W32, Width};
+use gen_logic::emit_splat;
 use micro_ir::MicroBuf;
 use rvv_decode::{Form, OpiOp, OpmOp, VInstr, VOp};
-use vtype_cfg::{Cfg, Policy};
+use vtype_cfg::Cfg;
 
 // LMUL counts eighths of a register.
 const EIGHTHS: u8 = 8;
+
+// The widths of elements but the widest.
+const BYTE_BITS: u8 = 8;
+
+const HALF_BITS: u8 = 16;
 
 /// Whether the instruction is carried out by a program of micro-operations: all but loads, stores, configurations,
 /// `vmv.x.s`, `vrgather.vv`, `vrgatherei16`, `vcompress` and `viota`.
 #[tactic(auto, unfolding(crate::specs::Programs::is_engine))]
 pub fn engine(i: &VInstr) -> bool
-    ensures { result ≡ is_engine i.now }
+    ensures value { result ≡ is_engine i.now }
 {
     match i.op {
         VOp::Opi(OpiOp::Vrgather) => i.form != Form::V,
@@ -46,121 +51,97 @@ fn registers(cfg: &Cfg) -> u8
     (cfg.vtype.lmul8 / EIGHTHS).max(1)
 }
 
-// The list of a kind, from the rows of its operands and the register that it writes.
-fn emit_kind(op: OpiOp, width: u8, a: u8, b: u8, to: u8, buf: &mut MicroBuf)
-    requires built { is_some (value_of op) ≡ true }
-    requires width { IsElementWidth width }
-    requires a { a < 36 }
-    requires b { b < 36 }
-    requires room { 10 ≤ buf.old.spare }
-    ensures ops { (addend : ℕ) → buf.new.ops ≡ buf.old.ops ++ kind_of op width a b addend to }
-    ensures spare { buf.new.spare + long_of op ≡ buf.old.spare }
+// Whether the results of an operation that is built are the bits of a mask.
+#[tactic(auto, unfolding(rvv_meaning::specs::Arithmetic::operation_for))]
+fn makes_mask(op: OpiOp) -> bool
+    requires { is_some (operation_for op) ≡ true }
+    ensures { result ≡ (operation_in op).makes_mask }
 {
-    match op {
-        OpiOp::Vand => emit_and(buf, a, b, to),
-        OpiOp::Vor => emit_or(buf, a, b, to),
-        OpiOp::Vxor => emit_xor(buf, a, b, to),
-        OpiOp::VmvV => emit_move(buf, b, to),
-        _ => unreachable!(),
-    }
-}
-
-// The row of the first operand for a register of the group: a move has none, and takes the destination in its place.
-fn row_of_a(op: OpiOp, i: &VInstr, register: u8) -> u8
-    requires { row_of (operands_of op i.now).a register < 36 }
-    ensures { result ≡ row_of (operands_of op i.now).a register }
-{
-    match op {
-        OpiOp::VmvV => i.vd + register,
-        _ => i.vs2 + register,
-    }
-}
-
-// The row of the second operand for a register of the group.
-fn row_of_b(op: OpiOp, i: &VInstr, register: u8) -> u8
-    requires { row_of (operands_of op i.now).b register < 36 }
-    ensures { result ≡ row_of (operands_of op i.now).b register }
-{
-    match i.form {
-        Form::V => i.vs1 + register,
-        Form::X | Form::I => SCALAR_ROW,
-    }
-}
-
-// Ones into the free elements of a register, where free elements become ones.
-fn emit_free(cfg: &Cfg, first: u32, masked: bool, to: u8, buf: &mut MicroBuf)
-    requires sew { IsElementWidth cfg.now.vtype.sew }
-    requires room { 3 ≤ buf.old.spare }
-    ensures ops { buf.new.ops ≡ buf.old.ops ++ fill_list cfg.now first masked to }
-    ensures spare { buf.new.spare + cond (is_ones cfg.now.policy) 3 0 ≡ buf.old.spare }
-{
-    match cfg.policy {
-        Policy::Keep => {}
-        Policy::Ones => {
-            free(buf, cfg, cfg.vtype.sew, first, masked, cfg.vtype.vta);
-            emit_fill(buf, to);
-        }
-    }
-}
-
-// The operations on one register of the destination.
-fn emit_register(op: OpiOp, i: &VInstr, cfg: &Cfg, register: u8, buf: &mut MicroBuf)
-    requires placed { IsPlaced op i.now cfg.now register }
-    requires length { cfg.now.vlen ≤ 65536 }
-    requires few { register < 8 }
-    requires room { 14 ≤ buf.old.spare }
-    ensures ops { buf.new.ops ≡ buf.old.ops ++ register_list op i.now cfg.now register }
-    ensures spare { buf.new.spare + (1 + cond (is_ones cfg.now.policy) 3 0 + long_of op) ≡ buf.old.spare }
-{
-    let width = cfg.vtype.sew;
-    let first = u32::from(register) * (cfg.vlen / u32::from(width));
-    let to = i.vd + register;
-    active(buf, cfg, width, first, !i.vm);
-    emit_kind(
+    matches!(
         op,
-        width,
-        row_of_a(op, i, register),
-        row_of_b(op, i, register),
-        to,
-        buf,
-    );
-    emit_free(cfg, first, !i.vm, to, buf);
+        OpiOp::Vmadc
+            | OpiOp::Vmsbc
+            | OpiOp::Vmseq
+            | OpiOp::Vmsne
+            | OpiOp::Vmsltu
+            | OpiOp::Vmslt
+            | OpiOp::Vmsleu
+            | OpiOp::Vmsle
+            | OpiOp::Vmsgtu
+            | OpiOp::Vmsgt
+    )
 }
 
-// The operations on all registers of the destination, in rising order.
-fn emit_registers(op: OpiOp, i: &VInstr, cfg: &Cfg, buf: &mut MicroBuf)
-    requires placed { (g : ℕ) → g < group_count cfg.now.vtype → IsPlaced op i.now cfg.now g }
-    requires length { cfg.now.vlen ≤ 65536 }
-    requires few { group_count cfg.now.vtype ≤ 8 }
-    requires room { 112 ≤ buf.old.spare }
-    ensures ops { buf.new.ops ≡ buf.old.ops ++ registers_list op i.now cfg.now (group_count cfg.now.vtype) }
-    ensures spare { buf.new.spare + group_count cfg.now.vtype * (1 + cond (is_ones cfg.now.policy) 3 0 + long_of op) ≡ buf.old.spare }
+// Whether the mask, where the instruction names it, is an operand of an operation that is built.
+#[tactic(auto, unfolding(rvv_meaning::specs::Arithmetic::operation_for))]
+fn takes_mask(op: OpiOp) -> bool
+    requires { is_some (operation_for op) ≡ true }
+    ensures { result ≡ (operation_in op).takes_mask }
 {
-    for register in 0..registers(cfg) {
-        emit_register(op, i, cfg, register, buf);
+    matches!(
+        op,
+        OpiOp::Vadc | OpiOp::Vsbc | OpiOp::Vmadc | OpiOp::Vmsbc | OpiOp::Vmerge
+    )
+}
+
+// How the instruction uses the mask.
+fn mask_use(op: OpiOp, i: &VInstr, cfg: &Cfg) -> MaskUse
+    requires { is_some (operation_for op) ≡ true }
+    ensures reads { result.reads ≡ reads op i.now cfg.now }
+    ensures masked { result.masked ≡ masked op i.now cfg.now }
+{
+    let takes = takes_mask(op);
+    MaskUse {
+        reads: takes && !i.vm,
+        masked: !takes && !i.vm,
     }
 }
 
 // The operations that put the scalar into its row, where the instruction has one.
-fn emit_scalar(i: &VInstr, cfg: &Cfg, scalar: u32, buf: &mut MicroBuf)
+fn emit_scalar<W: Width>(i: &VInstr, cfg: &Cfg, scalar: u32, buf: &mut MicroBuf)
+    requires width { cfg.now.vtype.sew ≡ W.BITS }
     requires sew { IsElementWidth cfg.now.vtype.sew }
     requires immediate { i.now.vs1 < 32 }
     requires room { 4 ≤ buf.old.spare }
     ensures ops { buf.new.ops ≡ buf.old.ops ++ scalar_list i.now cfg.now scalar }
     ensures spare { buf.new.spare + cond (has_scalar i.now.form) 4 0 ≡ buf.old.spare }
 {
-    let width = cfg.vtype.sew;
+    let at = at_rows(0, 0, 0);
     match i.form {
         Form::V => {}
-        Form::X => emit_splat(buf, width, scalar),
-        Form::I => emit_splat(buf, width, immediate(width, i.vs1)),
+        Form::X => emit_splat::<W>(buf, &at, scalar),
+        Form::I => emit_splat::<W>(buf, &at, immediate(cfg.vtype.sew, i.vs1)),
+    }
+}
+
+// The program of an instruction on elements of a width.
+fn emit_program_at<W: Width>(op: OpiOp, i: &VInstr, cfg: &Cfg, scalar: u32, buf: &mut MicroBuf)
+    requires width { cfg.now.vtype.sew ≡ W.BITS }
+    requires named { i.now.op ≡ Opi op }
+    requires built { is_some (operation_for op) ≡ true }
+    requires fields { IsInRange i.now }
+    requires legal { is_legal i.now cfg.now.vtype cfg.now.vstart ≡ true }
+    requires valid { IsTrue (is_valid cfg.now) }
+    requires empty { buf.old.ops ≡ [] }
+    requires room { buf.old.spare ≡ 262144 }
+    ensures program { buf.new.ops ≡ program_in op i.now cfg.now scalar }
+    ensures spare { buf.new.spare + length buf.new.ops ≡ buf.old.spare }
+{
+    let mask = mask_use(op, i, cfg);
+    let count = registers(cfg);
+    emit_scalar::<W>(i, cfg, scalar, buf);
+    if makes_mask(op) {
+        emit_mask_registers::<W>(op, i, cfg, mask, count, buf);
+        emit_mask_fill::<W>(cfg, i.vd, buf);
+    } else {
+        emit_registers::<W>(op, i, cfg, mask, count, buf);
     }
 }
 
 // The program of an instruction on elements.
 fn emit_program(op: OpiOp, i: &VInstr, cfg: &Cfg, scalar: u32, buf: &mut MicroBuf)
     requires named { i.now.op ≡ Opi op }
-    requires built { is_some (value_of op) ≡ true }
+    requires built { is_some (operation_for op) ≡ true }
     requires fields { IsInRange i.now }
     requires legal { is_legal i.now cfg.now.vtype cfg.now.vstart ≡ true }
     requires valid { IsTrue (is_valid cfg.now) }
@@ -169,14 +150,20 @@ fn emit_program(op: OpiOp, i: &VInstr, cfg: &Cfg, scalar: u32, buf: &mut MicroBu
     ensures program { buf.new.ops ≡ prog i.now cfg.now scalar }
     ensures spare { buf.new.spare + length buf.new.ops ≡ buf.old.spare }
 {
-    emit_scalar(i, cfg, scalar, buf);
-    emit_registers(op, i, cfg, buf);
+    if cfg.vtype.sew == BYTE_BITS {
+        emit_program_at::<W8>(op, i, cfg, scalar, buf);
+    } else if cfg.vtype.sew == HALF_BITS {
+        emit_program_at::<W16>(op, i, cfg, scalar, buf);
+    } else {
+        emit_program_at::<W32>(op, i, cfg, scalar, buf);
+    }
 }
 
 /// Writes the program of an instruction into an empty buffer with room for 262,144 operations: its scalar into a row,
-/// where it has one; and for each register of the destination, in rising order, its active elements, the list of its
-/// kind and, where free elements become ones, the fill. `scalar` is the value of x[rs1], where the instruction takes it.
-/// The instruction is legal under the configuration, and one on elements that is built.
+/// where it has one; for each register of its groups, in rising order, its active elements, their mask bits, where the
+/// mask is an operand, and the list of its kind; and what fills the free elements, where these become ones. `scalar` is
+/// the value of x[rs1], where the instruction takes it. The instruction is legal under the configuration, and one on
+/// elements that is built.
 pub fn plan(i: &VInstr, cfg: &Cfg, scalar: u32, buf: &mut MicroBuf)
     requires built { on_elements_is_built i.now.op ≡ true }
     requires fields { IsInRange i.now }

@@ -1,4 +1,4 @@
-use Rattle.std.proofs.Common.{◌≡◌, ◌≤◌, ◌+◌, ◌-◌, ◌*◌}
+use Rattle.std.proofs.Common.{◌≡◌, ◌+◌, ◌-◌, ◌*◌}
 use Rattle.std.specs.List.{flat_map, range_with_len}
 use Rattle.arrayvec.specs.ArrayString.{array_string_len}
 use Rattle.cape.specs.StateTexts.{vector_byte}

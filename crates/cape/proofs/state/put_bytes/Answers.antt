@@ -1,4 +1,4 @@
-use Rattle.std.proofs.Common.{◌≡◌, ◌≤◌, ◌+◌, ◌-◌, ◌/◌, arith}
+use Rattle.std.proofs.Common.{◌≡◌, ◌+◌, ◌-◌, ◌/◌, arith}
 use Rattle.cape.specs.StateTexts.{vector_byte, vector_bytes}
 use Rattle.cape.proofs.LayoutLemmas.{on_err}
 use Rattle.cape.proofs.PutLemmas.{pieces, pieces_split, pieces_done, nothing_put, piece_put, all_put, front_put}

@@ -1,6 +1,4 @@
-use Rattle.std.proofs.Common.{◌≡◌, ◌/◌, ◌%◌, ◌^◌, arith, refl, append_assoc}
-use Rattle.rvv_meaning.specs.Texts.{hex_digit}
-use Rattle.cape.specs.StateTexts.{hex_byte}
+use Rattle.std.proofs.Common.{arith, refl, append_assoc}
 use Rattle.cape.proofs.StateLemmas.{byte_digits}
 use Rattle.cape.proofs.text.push_byte.Goals as goal
 

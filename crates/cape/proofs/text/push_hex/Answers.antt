@@ -1,6 +1,6 @@
 use Rattle.std.proofs.Common.{◌<◌, arith, append_assoc}
 use Rattle.std.proofs.lemmas.Grind.{common_steps}
-use Rattle.cape.proofs.LayoutLemmas.{hex_digits_more}
+use Rattle.bit_laws.proofs.Digits.{hex_digits_more}
 use Rattle.cape.proofs.text.push_hex.Goals as goal
 
 pub loop-place-preserved : goal.loop-place-preserved

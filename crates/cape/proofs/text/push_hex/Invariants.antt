@@ -1,6 +1,6 @@
 use Rattle.std.proofs.Common.{◌≡◌, ◌+◌, ◌++◌}
 use Rattle.arrayvec.specs.ArrayString.{array_string_len}
-use Rattle.rvv_meaning.specs.Texts.{hex_digits, hex_word}
+use Rattle.bit_laws.specs.Digits.{hex_digits, hex_word}
 use Rattle.cape.proofs.text.push_hex.Given as goal
 
 -- the digits that are left make the word, and have room

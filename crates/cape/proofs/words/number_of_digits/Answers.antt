@@ -1,5 +1,5 @@
-use Rattle.std.proofs.Common.{◌≡◌, ◌+◌, ◌*◌, ◌<◌, Option, Some, None, ℕ, refl, sym, ap, ◌∙◌, arith}
-use Rattle.cape.specs.Grammar.{digit, in_range}
+use Rattle.std.proofs.Common.{◌≡◌, ◌+◌, ◌*◌, ◌<◌, refl, sym, ap, ◌∙◌, arith}
+use Rattle.cape.specs.Grammar.{in_range}
 use Rattle.cape.proofs.GrammarLemmas.{within_range, beyond_range, past_range, digits_more, digits_end, digits_done}
 use Rattle.cape.proofs.words.number_of_digits.Goals as goal
 

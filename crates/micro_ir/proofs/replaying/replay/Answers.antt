@@ -1,6 +1,6 @@
 use Rattle.std.proofs.Common.{◌<◌, length, arith, refl, ◌∙◌, sym}
 use Rattle.micro_ir.specs.Replay.{replay, tally}
-use Rattle.micro_ir.proofs.Lists.{replay_more, tally_more, IsInRange-at, counts_in-few, counts_and-assoc, counts_and-none}
+use Rattle.micro_ir.proofs.Lists.{replay_more, tally_more, IsInRange-at, few-one, counts_and-assoc, counts_and-none}
 use Rattle.micro_ir.proofs.replaying.replay.Goals as goal
 
 pub loop-i-init : goal.loop-i-init
@@ -23,12 +23,12 @@ loop-i-preserved c =
     let p = c.loop-i.invariant in
     let at = rw c.ops-ops.ensures.value at c.index-ops-i.is in
     let inside : c.loop-i.i < length c.args.buf.now.ops = let w = c.requires.within in omega arith in
-    let few = counts_in-few c.args.chain.now.columns c.index-ops-i.result (IsInRange-at c.args.chain.now.columns c.args.first _ c.loop-i.i _ c.requires.in_range c.loop-i-test.true inside at) in
+    let few = few-one c.args.chain.now.columns c.index-ops-i.result (IsInRange-at c.args.chain.now.columns c.args.first _ c.loop-i.i _ c.requires.in_range c.loop-i-test.true inside at) in
     record {
       slices = c.apply.ensures.slices c.args.ctl.now.num ∙ rw p.slices (sym (replay_more _ c.loop-i.i c.index-ops-i.result _ inside at));
       counted = c.apply.ensures.counted ∙ rw p.counted (rw (tally_more _ c.loop-i.i c.index-ops-i.result inside at) (sym (counts_and-assoc _ _ _)));
       columns = c.apply.ensures.columns ∙ p.columns;
-      searches = rw c.apply.ensures.counted (omega (arith, few.0, p.searches));
-      updates = rw c.apply.ensures.counted (omega (arith, few.1, p.updates));
-      passes = rw c.apply.ensures.counted (omega (arith, few.2, p.passes));
+      searches = rw c.apply.ensures.counted (omega (arith, few.searches, p.searches));
+      updates = rw c.apply.ensures.counted (omega (arith, few.updates, p.updates));
+      passes = rw c.apply.ensures.counted (omega (arith, few.passes, p.passes));
     }

@@ -9,6 +9,6 @@ returns-clause-slices g c =
     let ones = c.args.ones in
     c.write_row.ensures.slices ∙ elim c.if-ones.branch [
       | then-ones w ↦
-          by_words ones c.args.row c.args.width c.args.first c.if-ones.mask s c.requires.width (c.requires.mask (differ ones.on ones.off w.if-ones.true)) (λ e l. rw w.mask-is (w.read_mask.ensures e l))
+          by_words ones c.args.row c.args.width c.args.first c.if-ones.mask s c.requires.width (c.requires.mask (differ ones.on ones.off w.if-ones.true)) (λ e l. rw w.mask-is (w.read_row.ensures e l))
       | else-ones w ↦ by_nothing ones c.args.row c.args.width c.args.first c.if-ones.mask s (agree ones.on ones.off w.if-ones.false)
     ]

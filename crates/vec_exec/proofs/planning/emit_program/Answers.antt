@@ -1,32 +1,23 @@
-use Rattle.std.proofs.Common.{◌≡◌, ◌∙◌, refl, arith}
-use Rattle.vtype_cfg.proofs.Supported.{vlen_bounded}
-use Rattle.frame_meaning.specs.Costs.{length_of}
-use Rattle.vec_exec.specs.Programs.{program_in}
-use Rattle.vec_exec.proofs.Planned.{plans, prog-is, program-list, valid-length, measured}
+use Rattle.std.proofs.Common.{◌≡◌, ℕ, inl, inr, ◌∙◌, sym}
+use Rattle.vec_exec.specs.Kinds.{IsElementWidth}
+use Rattle.vec_exec.proofs.Planned.{prog-is, wide}
 use Rattle.vec_exec.proofs.planning.emit_program.Goals as goal
 
-pub emit_scalar-requires-clause-sew : goal.emit_scalar-requires-clause-sew
-emit_scalar-requires-clause-sew c = (plans c.args.i.now c.args.cfg.now c.args.scalar c.requires.valid c.requires.legal c.args.op c.requires.named c.requires.built).sew
+-- a width that is neither of the others
+last : (w : ℕ) → IsElementWidth w → (w ≡ 8 → ⊥) → (w ≡ 16 → ⊥) → w ≡ 32
+last w (inl is) no_8 no_16 = absurd (no_8 is)
+last w (inr (inl is)) no_8 no_16 = absurd (no_16 is)
+last w (inr (inr is)) no_8 no_16 = is
 
-pub emit_registers-requires-clause-placed : goal.emit_registers-requires-clause-placed
-emit_registers-requires-clause-placed c = (plans c.args.i.now c.args.cfg.now c.args.scalar c.requires.valid c.requires.legal c.args.op c.requires.named c.requires.built).placed
+pub emit_program_at-requires-else-cfg-eq-HALF_BITS-clause-width : goal.emit_program_at-requires-else-cfg-eq-HALF_BITS-clause-width
+emit_program_at-requires-else-cfg-eq-HALF_BITS-clause-width c =
+    last c.args.cfg.now.vtype.sew (wide c.args.op c.args.i.now c.args.cfg.now c.args.scalar c.requires.valid c.requires.legal c.requires.named c.requires.built) c.if-cfg-eq-BYTE_BITS.false c.if-cfg-eq-HALF_BITS.false
 
-pub emit_registers-requires-clause-length : goal.emit_registers-requires-clause-length
-emit_registers-requires-clause-length c = vlen_bounded c.args.cfg.now.vlen (valid-length c.args.cfg.now c.requires.valid)
+pub returns-then-cfg-eq-BYTE_BITS-clause-program : goal.returns-then-cfg-eq-BYTE_BITS-clause-program
+returns-then-cfg-eq-BYTE_BITS-clause-program c = c.emit_program_at.ensures.program ∙ sym (prog-is c.args.op c.args.i.now c.args.cfg.now c.args.scalar c.requires.named)
 
-pub emit_registers-requires-clause-few : goal.emit_registers-requires-clause-few
-emit_registers-requires-clause-few c = (plans c.args.i.now c.args.cfg.now c.args.scalar c.requires.valid c.requires.legal c.args.op c.requires.named c.requires.built).few
+pub returns-then-cfg-eq-HALF_BITS-clause-program : goal.returns-then-cfg-eq-HALF_BITS-clause-program
+returns-then-cfg-eq-HALF_BITS-clause-program c = c.emit_program_at-then-cfg-eq-HALF_BITS.ensures.program ∙ sym (prog-is c.args.op c.args.i.now c.args.cfg.now c.args.scalar c.requires.named)
 
-pub returns-clause-program : goal.returns-clause-program
-returns-clause-program c =
-    let p = plans c.args.i.now c.args.cfg.now c.args.scalar c.requires.valid c.requires.legal c.args.op c.requires.named c.requires.built in
-    c.emit_registers.ensures.ops ∙ rw (c.emit_scalar.ensures.ops, c.requires.empty, prog-is c.args.op c.args.i.now c.args.cfg.now c.args.scalar c.requires.named, program-list c.args.op c.args.i.now c.args.cfg.now c.args.scalar p.sew) refl
-
-pub returns-clause-spare : goal.returns-clause-spare
-unfolding length_of
-returns-clause-spare c =
-    let p = plans c.args.i.now c.args.cfg.now c.args.scalar c.requires.valid c.requires.legal c.args.op c.requires.named c.requires.built in
-    let m = measured c.args.i.now c.args.cfg.now c.args.scalar c.requires.valid c.requires.legal c.args.op c.requires.named c.requires.built c.requires.fields.vs1 in
-    let written : c.emit_registers.new.buf.ops ≡ program_in c.args.op c.args.i.now c.args.cfg.now c.args.scalar =
-    c.emit_registers.ensures.ops ∙ rw (c.emit_scalar.ensures.ops, c.requires.empty, program-list c.args.op c.args.i.now c.args.cfg.now c.args.scalar p.sew) refl in
-    rw (written, m.count) (omega (arith, c.emit_registers.ensures.spare, c.emit_scalar.ensures.spare))
+pub returns-else-cfg-eq-HALF_BITS-clause-program : goal.returns-else-cfg-eq-HALF_BITS-clause-program
+returns-else-cfg-eq-HALF_BITS-clause-program c = c.emit_program_at-else-cfg-eq-HALF_BITS.ensures.program ∙ sym (prog-is c.args.op c.args.i.now c.args.cfg.now c.args.scalar c.requires.named)

@@ -1,21 +1,22 @@
 use Rattle.std.proofs.Common.{◌/◌, arith}
-use Rattle.vec_exec.proofs.Planned.{prog-is, cost-is, realised, measured, tally-few}
+use Rattle.micro_ir.proofs.Lists.{tally-few}
+use Rattle.vec_exec.proofs.Planned.{prog-is, fine}
 use Rattle.vec_exec.proofs.planning.plan.Goals as goal
 
 pub returns-clause-realises : goal.returns-clause-realises
 returns-clause-realises c =
     rw (c.emit_program.ensures.program, prog-is c.in-Opi.op c.args.i.now c.args.cfg.now c.args.scalar c.in-Opi.is)
-    (realised c.args.i.now c.args.cfg.now c.args.scalar c.requires.valid c.requires.legal c.in-Opi.op c.in-Opi.is (rw c.in-Opi.is at c.requires.built) c.requires.fields.vs1)
+    (fine c.in-Opi.op c.args.i.now c.args.cfg.now c.args.scalar c.requires.valid c.requires.legal c.in-Opi.is (rw c.in-Opi.is at c.requires.built) c.requires.fields.vs1).realises
 
 pub returns-clause-cost : goal.returns-clause-cost
 returns-clause-cost c =
-    let m = measured c.args.i.now c.args.cfg.now c.args.scalar c.requires.valid c.requires.legal c.in-Opi.op c.in-Opi.is (rw c.in-Opi.is at c.requires.built) c.requires.fields.vs1 in
-    rw (c.emit_program.ensures.program, prog-is c.in-Opi.op c.args.i.now c.args.cfg.now c.args.scalar c.in-Opi.is, cost-is c.in-Opi.op c.args.i.now c.args.cfg.now c.in-Opi.is) m.cost
+    rw (c.emit_program.ensures.program, prog-is c.in-Opi.op c.args.i.now c.args.cfg.now c.args.scalar c.in-Opi.is)
+    (fine c.in-Opi.op c.args.i.now c.args.cfg.now c.args.scalar c.requires.valid c.requires.legal c.in-Opi.is (rw c.in-Opi.is at c.requires.built) c.requires.fields.vs1).cost
 
 pub returns-clause-range : goal.returns-clause-range
 returns-clause-range c =
-    let m = measured c.args.i.now c.args.cfg.now c.args.scalar c.requires.valid c.requires.legal c.in-Opi.op c.in-Opi.is (rw c.in-Opi.is at c.requires.built) c.requires.fields.vs1 in
-    rw (c.emit_program.ensures.program, prog-is c.in-Opi.op c.args.i.now c.args.cfg.now c.args.scalar c.in-Opi.is) m.range
+    rw (c.emit_program.ensures.program, prog-is c.in-Opi.op c.args.i.now c.args.cfg.now c.args.scalar c.in-Opi.is)
+    (fine c.in-Opi.op c.args.i.now c.args.cfg.now c.args.scalar c.requires.valid c.requires.legal c.in-Opi.is (rw c.in-Opi.is at c.requires.built) c.requires.fields.vs1).range
 
 pub returns-clause-searches : goal.returns-clause-searches
 returns-clause-searches c =

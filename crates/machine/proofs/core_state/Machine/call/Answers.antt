@@ -1,4 +1,4 @@
-use Rattle.std.proofs.Common.{◌≡◌, Err, refl, sym, ap, ◌∙◌}
+use Rattle.std.proofs.Common.{Err, refl, sym, ap, ◌∙◌}
 use Rattle.cam_chain.specs.ChainValue.{slices_of}
 use Rattle.cam_chain.specs.Views.{registers_of}
 use Rattle.rvv_meaning.specs.declared.Mode.TheVariants.{Exited}

@@ -1,7 +1,5 @@
-use Rattle.std.proofs.Common.{◌≡◌, ◌∙◌, sym, ap, []}
-use Rattle.rvv_meaning.specs.declared.Meaning.TheVariants.{Scalar, Vector}
+use Rattle.std.proofs.Common.{◌∙◌, sym, ap, []}
 use Rattle.rvv_meaning.specs.declared.Next.TheVariants.{Perform}
-use Rattle.rvv_meaning.specs.States.{next}
 use Rattle.machine.proofs.Carried.{emptied, carries-stop}
 use Rattle.machine.proofs.core_state.Machine.carry_out.Goals as goal
 

@@ -1,6 +1,6 @@
 use Rattle.std.proofs.Common.{◌≡◌, [], refl, sym, ap, ◌∙◌}
 use Rattle.rvv_meaning.specs.declared.Flow.TheVariants.{Next, Jump, Trap, Call}
-use Rattle.rvv_meaning.specs.States.{Core, effect_at, with_effect, after_flow}
+use Rattle.rvv_meaning.specs.States.{Core, effect_at}
 use Rattle.machine.proofs.Carried.{emptied, still, carries-scalar, carries-call, fails-call}
 use Rattle.machine.proofs.Returns.{ok-three, err-two}
 use Rattle.machine.proofs.core_state.Machine.perform.Goals as goal

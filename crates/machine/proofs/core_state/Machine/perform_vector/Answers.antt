@@ -1,4 +1,4 @@
-use Rattle.std.proofs.Common.{◌≡◌, ◌∙◌, sym, ap, true, arith}
+use Rattle.std.proofs.Common.{◌≡◌, ◌∙◌, ap, true, arith}
 use Rattle.rvv_meaning.specs.States.{Core}
 use Rattle.rvv_meaning.specs.Vectors.{on_elements_is_built}
 use Rattle.machine.specs.Moments.{Held}

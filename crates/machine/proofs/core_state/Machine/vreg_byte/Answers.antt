@@ -1,4 +1,4 @@
-use Rattle.std.proofs.Common.{◌≡◌, ◌*◌, ◌<◌, arith, sym, ap}
+use Rattle.std.proofs.Common.{◌*◌, ◌<◌, arith, ap}
 use Rattle.cam_chain.specs.ChainValue.{slices_of}
 use Rattle.machine.specs.Moments.{Held}
 use Rattle.machine.proofs.Starts.{word-byte}

@@ -1,0 +1,17 @@
+use Rattle.std.proofs.Common.{◌<◌, arith}
+use Rattle.gen_arith.proofs.Costs.{le-measured}
+use Rattle.gen_arith.proofs.Folded.{both-apart}
+use Rattle.gen_arith.proofs.Truths.{le-tells}
+use Rattle.gen_arith.proofs.comparing.emit_le.Goals as goal
+
+pub returns-clause-tells : goal.returns-clause-tells
+returns-clause-tells g c =
+    let w = g.W.Width.BITS in
+    let some : 0 < g.W.Width.BITS = let h = g.met.W.Width.least in omega arith in
+    λ reads. le-tells w c.args.at.now.a c.args.at.now.b reads some (both-apart 35 41 c.args.at.now.a c.args.at.now.b (omega arith, omega arith) (omega arith, omega arith) c.requires.a c.requires.b)
+
+pub returns-clause-cost : goal.returns-clause-cost
+returns-clause-cost g c =
+    let w = g.W.Width.BITS in
+    let some : 0 < g.W.Width.BITS = let h = g.met.W.Width.least in omega arith in
+    (le-measured w c.args.at.now.a c.args.at.now.b some).cost

@@ -1,0 +1,29 @@
+use Rattle.std.proofs.Common.{◌≡◌, ℕ, ◌+◌, ◌-◌, ◌<◌, ◌∷◌, sym, append-nil, arith}
+use Rattle.gen_arith.specs.Recipes.{operands, values_of}
+use Rattle.gen_arith.proofs.Lists.{ripple-none, ripple-more, ripple-last, one-more, two-more}
+use Rattle.gen_arith.proofs.steps.emit_digits.Goals as goal
+
+pub loop-bit-init : goal.loop-bit-init
+loop-bit-init g c = record {
+  ops = rw (ripple-none g.W.Width.BITS (35 ∷ operands c.args.a c.args.b) (values_of c.args.digits.now c.args.a c.args.b) (values_of c.args.carries.now c.args.a c.args.b) 35 36) (sym (append-nil _));
+  spare = omega arith;
+}
+
+pub loop-bit-preserved : goal.loop-bit-preserved
+loop-bit-preserved g c =
+    let bit : ℕ = c.loop-bit.bit in
+    let below : bit + 1 < g.W.Width.BITS = omega (arith, c.loop-bit-test.true, c.BITS.ensures) in
+    record {
+      ops = two-more _ _ _ _ c.emit_table_at-in-loop-bit.ensures.ops c.emit_table_at.ensures.ops c.loop-bit.invariant.ops
+          (ripple-more g.W.Width.BITS (35 ∷ operands c.args.a c.args.b) (values_of c.args.digits.now c.args.a c.args.b) (values_of c.args.carries.now c.args.a c.args.b) 35 36 bit below);
+      spare = omega (arith, c.emit_table_at.ensures.spare, c.emit_table_at-in-loop-bit.ensures.spare, c.loop-bit.invariant.spare, c.requires.digits, c.requires.carries);
+    }
+
+pub returns-clause-ops : goal.returns-clause-ops
+returns-clause-ops g c =
+    let bit : ℕ = c.loop-bit.bit in
+    let h = g.met.W.Width.least in
+    let last : bit ≡ c.BITS.result - 1 = omega arith in
+    let is : g.W.Width.BITS ≡ bit + 1 = omega (arith, last, c.BITS.ensures) in
+    let top = ripple-last g.W.Width.BITS (35 ∷ operands c.args.a c.args.b) (values_of c.args.digits.now c.args.a c.args.b) (values_of c.args.carries.now c.args.a c.args.b) 35 36 bit is in
+    one-more _ _ _ (rw (← last) at c.emit_table_at-2.ensures.ops) c.loop-bit.invariant.ops top

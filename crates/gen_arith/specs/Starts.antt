@@ -1,0 +1,35 @@
+-- What is carried into the lowest bit.
+use Rattle.std.specs.Prelude.{ℕ, List, [], ◌∷◌}
+use Rattle.micro_ir.specs.WorkRows.{mask_row}
+use Rattle.gen_arith.specs.Recipes.{Sum, Compare}
+use Rattle.gen_arith.specs.declared.steps.Start.{Start}
+use Rattle.gen_arith.specs.declared.steps.Start.TheVariants.{Zero, One, Mask, NotMask}
+
+-- the rows that it is made of
+abbrev pub rows_from : Start → List ℕ
+rows_from Zero = []
+rows_from One = []
+rows_from Mask = mask_row ∷ []
+rows_from NotMask = mask_row ∷ []
+
+-- the values of them that give 1
+abbrev pub values_from : Start → List ℕ
+values_from Zero = []
+values_from One = 0 ∷ []
+values_from Mask = 1 ∷ []
+values_from NotMask = 0 ∷ []
+
+-- the number of operations that this takes
+abbrev pub start_count : Start → ℕ
+start_count Zero = 0
+start_count One = 2
+start_count Mask = 2
+start_count NotMask = 2
+
+-- the sum with these tables
+abbrev pub sum_of : Start → (digits carries : List ℕ) → Sum
+sum_of start digits carries = record { from = rows_from start; from_on = values_from start; digits = digits; carries = carries }
+
+-- the comparison with these tables
+abbrev pub compare_of : Start → (carries last : List ℕ) → Compare
+compare_of start carries last = record { from = rows_from start; from_on = values_from start; carries = carries; last = last }

@@ -1,0 +1,217 @@
+// The operations on the registers of a group.
+ghost use Rattle.std.specs.Prelude.{◌≡◌, ℕ, ◌+◌, ◌*◌, ◌/◌, ◌<◌, ◌≤◌, ◌++◌, true, cond};
+ghost use Rattle.rvv_meaning.specs.Elementwise.{is_ones};
+ghost use Rattle.vec_exec.specs.Kinds.{each_of, truth_each_of, operations_in};
+ghost use Rattle.vec_exec.specs.Programs.{makes_elements, makes_bits, IsPlaced, IsMaskPlaced, fill_list, window_list, register_list, registers_list, free_bits, free_count, mask_register_list, mask_registers_list, mask_fill_list, reads, masked};
+
+use crate::kinds::{emit_kind, emit_truth_kind};
+use crate::operands::{at_rows, mask_place, place};
+use bit_laws::Width;
+use gen_logic::emit_fill;
+use mask_window::{active, free};
+use micro_ir::{MicroBuf, MicroOp};
+use rvv_decode::{OpiOp, VInstr};
+use vtype_cfg::{Cfg, Policy};
+
+// The row of active elements, and that of the mask bits where the mask is an operand.
+const ACTIVE_ROW: u8 = 32;
+
+const MASK_ROW: u8 = 33;
+
+// The row of truths, at the highest bit of each element.
+const TRUTH_ROW: u8 = 41;
+
+// The bits of an element of a mask.
+const MASK_WIDTH: u8 = 1;
+
+// How an instruction uses the mask: as an operand, or to leave elements out.
+#[derive(Clone, Copy)]
+pub(crate) struct MaskUse {
+    pub(crate) reads: bool,
+    pub(crate) masked: bool,
+}
+
+// The operations that mark the elements of a register, and lay out their mask bits where the mask is an operand.
+fn emit_windows(cfg: &Cfg, mask: MaskUse, first: u32, buf: &mut MicroBuf)
+    requires room { 2 ≤ buf.old.spare }
+    ensures ops { buf.new.ops ≡ buf.old.ops ++ window_list cfg.now mask.reads mask.masked first }
+    ensures spare { buf.new.spare + (1 + cond mask.reads 1 0) ≡ buf.old.spare }
+{
+    active(buf, cfg, cfg.vtype.sew, first, mask.masked);
+    if mask.reads {
+        buf.push(MicroOp::Window {
+            row: MASK_ROW,
+            width: cfg.vtype.sew,
+            first,
+            from: cfg.vstart,
+            to: cfg.vl,
+            masked: true,
+        });
+    }
+}
+
+// Ones into the free elements of a register, where free elements become ones.
+fn emit_free<W: Width>(cfg: &Cfg, first: u32, masked: bool, to: u8, buf: &mut MicroBuf)
+    requires width { cfg.now.vtype.sew ≡ W.BITS }
+    requires to { to < 32 }
+    requires room { 3 ≤ buf.old.spare }
+    ensures ops { buf.new.ops ≡ buf.old.ops ++ fill_list cfg.now first masked to }
+    ensures spare { buf.new.spare + cond (is_ones cfg.now.policy) 3 0 ≡ buf.old.spare }
+{
+    match cfg.policy {
+        Policy::Keep => {}
+        Policy::Ones => {
+            free(buf, cfg, cfg.vtype.sew, first, masked, cfg.vtype.vta);
+            emit_fill::<W>(buf, &at_rows(to, to, to));
+        }
+    }
+}
+
+// The number of the first element of a register of a group.
+fn first_of(cfg: &Cfg, register: u8) -> u32
+    requires sew { 0 < cfg.now.vtype.sew }
+    requires length { cfg.now.vlen ≤ 65536 }
+    requires few { register < 8 }
+    ensures { result ≡ register * (cfg.now.vlen / cfg.now.vtype.sew) }
+{
+    u32::from(register) * (cfg.vlen / u32::from(cfg.vtype.sew))
+}
+
+// The operations on one register of the destination.
+fn emit_register<W: Width>(
+    op: OpiOp,
+    i: &VInstr,
+    cfg: &Cfg,
+    mask: MaskUse,
+    register: u8,
+    buf: &mut MicroBuf,
+)
+    requires elements { makes_elements op ≡ true }
+    requires width { cfg.now.vtype.sew ≡ W.BITS }
+    requires reads { mask.reads ≡ reads op i.now cfg.now }
+    requires masked { mask.masked ≡ masked op i.now cfg.now }
+    requires placed { IsPlaced op i.now register }
+    requires length { cfg.now.vlen ≤ 65536 }
+    requires few { register < 8 }
+    requires room { 400 ≤ buf.old.spare }
+    ensures ops { buf.new.ops ≡ buf.old.ops ++ register_list op i.now cfg.now register }
+    ensures spare { buf.new.spare + (1 + cond mask.reads 1 0 + cond (is_ones cfg.now.policy) 3 0 + operations_in (each_of op mask.reads cfg.now.vtype.sew)) ≡ buf.old.spare }
+{
+    let first = first_of(cfg, register);
+    let at = place(op, i, register);
+    emit_windows(cfg, mask, first, buf);
+    emit_kind::<W>(op, mask.reads, &at, buf);
+    emit_free::<W>(cfg, first, mask.masked, at.to, buf);
+}
+
+// The operations on all registers of the destination, in rising order.
+pub(crate) fn emit_registers<W: Width>(
+    op: OpiOp,
+    i: &VInstr,
+    cfg: &Cfg,
+    mask: MaskUse,
+    count: u8,
+    buf: &mut MicroBuf,
+)
+    requires elements { makes_elements op ≡ true }
+    requires width { cfg.now.vtype.sew ≡ W.BITS }
+    requires reads { mask.reads ≡ reads op i.now cfg.now }
+    requires masked { mask.masked ≡ masked op i.now cfg.now }
+    requires placed { (g : ℕ) → g < count → IsPlaced op i.now g }
+    requires length { cfg.now.vlen ≤ 65536 }
+    requires few { count ≤ 8 }
+    requires room { 3200 ≤ buf.old.spare }
+    ensures ops { buf.new.ops ≡ buf.old.ops ++ registers_list op i.now cfg.now count }
+    ensures spare { buf.new.spare + count * (1 + cond mask.reads 1 0 + cond (is_ones cfg.now.policy) 3 0 + operations_in (each_of op mask.reads cfg.now.vtype.sew)) ≡ buf.old.spare }
+{
+    for register in 0..count {
+        emit_register::<W>(op, i, cfg, mask, register, buf);
+    }
+}
+
+// The operation that marks the free bits of a mask, with the first register alone: the mask may be v0, which says what is
+// left out, so that it is read before a bit is written.
+fn emit_free_bits(cfg: &Cfg, masked: bool, register: u8, buf: &mut MicroBuf)
+    requires room { 1 ≤ buf.old.spare }
+    ensures ops { buf.new.ops ≡ buf.old.ops ++ free_bits cfg.now masked register }
+    ensures spare { buf.new.spare + free_count (is_ones cfg.now.policy) register ≡ buf.old.spare }
+{
+    match cfg.policy {
+        Policy::Ones if register == 0 => free(buf, cfg, MASK_WIDTH, 0, masked, true),
+        Policy::Ones | Policy::Keep => {}
+    }
+}
+
+// The operations on one register of the operands of a mask.
+fn emit_mask_register<W: Width>(
+    op: OpiOp,
+    i: &VInstr,
+    cfg: &Cfg,
+    mask: MaskUse,
+    register: u8,
+    buf: &mut MicroBuf,
+)
+    requires bits { makes_bits op ≡ true }
+    requires width { cfg.now.vtype.sew ≡ W.BITS }
+    requires reads { mask.reads ≡ reads op i.now cfg.now }
+    requires masked { mask.masked ≡ masked op i.now cfg.now }
+    requires placed { IsMaskPlaced i.now register }
+    requires length { cfg.now.vlen ≤ 65536 }
+    requires few { register < 8 }
+    requires room { 400 ≤ buf.old.spare }
+    ensures ops { buf.new.ops ≡ buf.old.ops ++ mask_register_list op i.now cfg.now register }
+    ensures spare { buf.new.spare + (2 + cond mask.reads 1 0 + operations_in (truth_each_of op mask.reads cfg.now.vtype.sew) + free_count (is_ones cfg.now.policy) register) ≡ buf.old.spare }
+{
+    let first = first_of(cfg, register);
+    let at = mask_place(i, register);
+    emit_windows(cfg, mask, first, buf);
+    emit_truth_kind::<W>(op, mask.reads, &at, buf);
+    emit_free_bits(cfg, mask.masked, register, buf);
+    buf.push(MicroOp::PackMask {
+        from: TRUTH_ROW,
+        under: ACTIVE_ROW,
+        to: at.to,
+        width: cfg.vtype.sew,
+        first,
+    });
+}
+
+// The operations on all registers of the operands of a mask, in rising order.
+pub(crate) fn emit_mask_registers<W: Width>(
+    op: OpiOp,
+    i: &VInstr,
+    cfg: &Cfg,
+    mask: MaskUse,
+    count: u8,
+    buf: &mut MicroBuf,
+)
+    requires bits { makes_bits op ≡ true }
+    requires width { cfg.now.vtype.sew ≡ W.BITS }
+    requires reads { mask.reads ≡ reads op i.now cfg.now }
+    requires masked { mask.masked ≡ masked op i.now cfg.now }
+    requires placed { (g : ℕ) → g < count → IsMaskPlaced i.now g }
+    requires length { cfg.now.vlen ≤ 65536 }
+    requires few { count ≤ 8 }
+    requires some { 0 < count }
+    requires room { 3200 ≤ buf.old.spare }
+    ensures ops { buf.new.ops ≡ buf.old.ops ++ mask_registers_list op i.now cfg.now count }
+    ensures spare { buf.new.spare + (count * (2 + cond mask.reads 1 0 + operations_in (truth_each_of op mask.reads cfg.now.vtype.sew)) + cond (is_ones cfg.now.policy) 1 0) ≡ buf.old.spare }
+{
+    for register in 0..count {
+        emit_mask_register::<W>(op, i, cfg, mask, register, buf);
+    }
+}
+
+// Ones into the free bits of a mask, where free elements become ones.
+pub(crate) fn emit_mask_fill<W: Width>(cfg: &Cfg, to: u8, buf: &mut MicroBuf)
+    requires width { cfg.now.vtype.sew ≡ W.BITS }
+    requires to { to < 32 }
+    requires room { 2 ≤ buf.old.spare }
+    ensures ops { buf.new.ops ≡ buf.old.ops ++ mask_fill_list cfg.now to }
+    ensures spare { buf.new.spare + cond (is_ones cfg.now.policy) 2 0 ≡ buf.old.spare }
+{
+    match cfg.policy {
+        Policy::Keep => {}
+        Policy::Ones => emit_fill::<W>(buf, &at_rows(to, to, to)),
+    }
+}

@@ -1,0 +1,189 @@
+"""Compares the lists of kinds that crates/kind_list tells with the executable model's.
+
+    compare_lists.py ask                           writes the lines that kind_list is asked
+    compare_lists.py hashes TOLD HASHES            compares lengths and hashes with a list of them
+    compare_lists.py guests MODEL FOLDER TOLD      compares lists with those of one instruction each, some with equal operands
+"""
+
+import os
+import re
+import subprocess
+import sys
+
+from guest import image, load
+
+BITWISE = ["and", "or", "xor", "move", "merge", "nand", "nor", "xnor", "andn", "orn"]
+SUMS = ["add", "sub", "adc", "sbc"]
+TRUTHS = ["madc", "madc_in", "msbc", "msbc_in", "eq", "ne", "ltu", "lt", "leu", "le", "gtu", "gt"]
+CHOICES = ["minu", "min", "maxu", "max"]
+KINDS = BITWISE + SUMS + TRUTHS + CHOICES
+WIDTHS = [8, 16, 32]
+# The rows of the operands: two registers, one register twice, and the row of the scalar with a register and the other way
+# round. The result goes to another register.
+SCALAR_ROW = 34
+APART, ALIKE, SCALAR, SCALAR_FIRST = (2, 3), (2, 2), (2, SCALAR_ROW), (SCALAR_ROW, 2)
+ROWS = [APART, ALIKE, SCALAR, SCALAR_FIRST]
+TO = 5
+# FNV-1a of 64 bits: the first value, the factor, and how many values there are.
+BASIS = 0xCBF29CE484222325
+PRIME = 0x100000001B3
+HASHES = 1 << 64
+
+# The funct6 and the vm of the instruction of each kind on elements. Merge and move have one funct6.
+ON_ELEMENTS = {
+    "and": (9, 1), "or": (10, 1), "xor": (11, 1), "move": (23, 1), "merge": (23, 0), "add": (0, 1), "sub": (2, 1),
+    "adc": (16, 0), "sbc": (18, 0), "madc": (17, 1), "madc_in": (17, 0), "msbc": (19, 1), "msbc_in": (19, 0), "eq": (24, 1),
+    "ne": (25, 1), "ltu": (26, 1), "lt": (27, 1), "leu": (28, 1), "le": (29, 1), "gtu": (30, 1), "gt": (31, 1), "minu": (4, 1),
+    "min": (5, 1), "maxu": (6, 1), "max": (7, 1),
+}
+# The funct6 of the kinds that only words on masks have.
+ON_MASKS = {"andn": 24, "orn": 28, "nand": 29, "nor": 30, "xnor": 31}
+# That of the difference whose first operand is the scalar.
+REVERSED = 3
+# The f3 of the forms with a register and with a scalar register, and of the words on masks.
+V, X, M = 0, 4, 2
+# The scalar register of the second form.
+SCALAR_REGISTER = 6
+# No list of an instruction here is longer.
+MOST_OPERATIONS = 1000
+# What the frame of an instruction has before the list of its kind, and behind it.
+BEFORE = re.compile(rf"window .*|search \w+ 0|update \w+ {SCALAR_ROW} [01]")
+AFTER = re.compile(r"packmask .*")
+# vsetivli with a length of 2, into x1
+SET_TYPE = 0xC00170D7
+
+
+def question(kind, width, rows):
+    return f"{kind} {width} {rows[0]} {rows[1]} {TO}"
+
+
+def ask():
+    for kind in KINDS:
+        for width in WIDTHS:
+            for rows in ROWS:
+                print(question(kind, width, rows))
+
+
+def told_lists(path):
+    """The lists by their questions: each behind a line of its kind, its width and its length."""
+    with open(path) as file:
+        lines = iter(file.read().splitlines())
+    lists = {}
+    for kind in KINDS:
+        for width in WIDTHS:
+            for rows in ROWS:
+                front = f"kind {kind} width {width} operations "
+                header = next(lines, "")
+                if not header.startswith(front):
+                    sys.exit(f"no list of {question(kind, width, rows)}: {header!r}")
+                lists[kind, width, rows] = [next(lines, "") for _ in range(int(header[len(front):]))]
+    if next(lines, None) is not None:
+        sys.exit("more is told than was asked")
+    return lists
+
+
+def hash_of(lines):
+    value = BASIS
+    for byte in "".join(f"{line}\n" for line in lines).encode():
+        value = (value ^ byte) * PRIME % HASHES
+    return f"{value:016x}"
+
+
+def known_hashes(path):
+    """The length and the hash of each list that is known, by the name of its kind in lower case and its width."""
+    known = {}
+    with open(path) as file:
+        for line in file:
+            words = line.split()
+            if words[2:6] == ["prof1", "mode0", "sub0", "ops"]:
+                known[words[0].lower(), int(words[1][1:])] = int(words[6]), words[-1]
+    return known
+
+
+def finish(what, same, different):
+    for line in different:
+        print(f"differs: {line}")
+    print(f"{what}: {same} the same, {len(different)} different")
+    sys.exit(1 if different else 0)
+
+
+def compare_hashes(told_path, hashes_path):
+    known = known_hashes(hashes_path)
+    different = []
+    same = 0
+    for (kind, width, rows), lines in told_lists(told_path).items():
+        if rows != APART:
+            continue
+        ours = len(lines), hash_of(lines)
+        theirs = known.get((kind.replace("_", ""), width))
+        if ours == theirs:
+            same += 1
+        else:
+            different.append(f"{question(kind, width, rows)}: {ours}, and the model: {theirs}")
+    finish("hashes of lists", same, different)
+
+
+def word_of(kind, rows):
+    """The word of a kind's instruction with these operands, or none where no instruction has them so."""
+    a, b = rows
+    if kind in ON_MASKS:
+        return None if SCALAR_ROW in rows else ON_MASKS[kind] << 26 | 1 << 25 | a << 20 | b << 15 | M << 12 | TO << 7 | 0x57
+    funct6, unmasked = ON_ELEMENTS[kind]
+    form = V
+    if rows == SCALAR_FIRST:
+        if kind != "sub":
+            return None
+        funct6, a, b = REVERSED, b, a
+    if b == SCALAR_ROW:
+        form, b = X, SCALAR_REGISTER
+    elif kind in ("gtu", "gt"):
+        return None
+    if kind == "move":
+        a = 0
+    return funct6 << 26 | unmasked << 25 | a << 20 | b << 15 | form << 12 | TO << 7 | 0x57
+
+
+def model_list(model, folder, word, width):
+    """The operations of an instruction: those of the kind stand among those of the frame."""
+    path = os.path.join(folder, "image")
+    before = load(SCALAR_REGISTER, 0x5A) + [SET_TYPE | (width.bit_length() - 4) << 23]
+    with open(path, "wb") as file:
+        file.write(image([*before, word, 0x6F]))
+    session = f"step {len(before) + 1}\n" + "".join(f"micro {k}\n" for k in range(MOST_OPERATIONS))
+    run = subprocess.run([model, "debug", path], input=session.encode(), capture_output=True)
+    lines = run.stdout.decode().splitlines()
+    return [line.split(maxsplit=2)[2] for line in lines if line.startswith("micro ")]
+
+
+def is_framed(part, whole):
+    """The list, behind windows and a splat of the scalar, and before the packing of a mask."""
+    return any(
+        whole[at:at + len(part)] == part
+        and all(BEFORE.fullmatch(line) for line in whole[:at])
+        and all(AFTER.fullmatch(line) for line in whole[at + len(part):])
+        for at in range(len(whole) - len(part) + 1)
+    )
+
+
+def compare_guests(model, folder, told_path):
+    different = []
+    same = 0
+    for (kind, width, rows), lines in told_lists(told_path).items():
+        word = word_of(kind, rows)
+        if word is None:
+            continue
+        theirs = model_list(model, folder, word, width)
+        if lines and is_framed(lines, theirs):
+            same += 1
+        else:
+            different.append(f"{question(kind, width, rows)} is not the list of {word:08x} in the model")
+    finish("lists of instructions", same, different)
+
+
+if __name__ == "__main__":
+    if sys.argv[1] == "ask":
+        ask()
+    elif sys.argv[1] == "hashes":
+        compare_hashes(*sys.argv[2:4])
+    else:
+        compare_guests(*sys.argv[2:5])
