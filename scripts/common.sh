@@ -1,4 +1,5 @@
-# What the comparisons with the executable model share: where things lie, and a scratch folder that goes at the end.
+# What the comparisons with the executable model share: where things lie, and a scratch folder that goes at the end. The
+# model is a program of this project's authors that tells what `cape` should; users need neither it nor these scripts.
 # A script reads it first, as in: source "$(dirname "$0")/common.sh"
 set -u
 top=$(cd "$(dirname "${BASH_SOURCE[0]}")/.." && pwd)

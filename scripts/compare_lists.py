@@ -1,6 +1,6 @@
-"""Compares the lists of kinds that crates/kind_list tells with the executable model's.
+"""Compares the lists of kinds that crates/library_probe tells with the executable model's.
 
-    compare_lists.py ask                           writes the lines that kind_list is asked
+    compare_lists.py ask                           writes the lines that library_probe is asked
     compare_lists.py hashes TOLD HASHES            compares lengths and hashes with a list of them
     compare_lists.py guests MODEL FOLDER TOLD      compares lists with those of one instruction each, some with equal operands
 """
@@ -54,7 +54,7 @@ SET_TYPE = 0xC00170D7
 
 
 def question(kind, width, rows):
-    return f"{kind} {width} {rows[0]} {rows[1]} {TO}"
+    return f"kind {kind} {width} {rows[0]} {rows[1]} {TO}"
 
 
 def ask():

@@ -1,7 +1,7 @@
 """Makes random programs of vector instructions on integers, and compares their last states with the executable model's.
 
-    compare_vectors.py compare CAPE MODEL FOLDER FIRST LAST [--counts]   compares the programs of the seeds
-    compare_vectors.py image SEED FILE                                   writes one program, and shows its options
+    compare_vectors.py compare CAPE MODEL FOLDER FIRST LAST   compares the programs of the seeds
+    compare_vectors.py image SEED FILE                        writes one program, and shows its options
 """
 
 import collections
@@ -419,29 +419,27 @@ def first_difference(ours, theirs):
 
 def compared(job):
     """How the model ended the program of a seed, and in what the states differ, if they do."""
-    cape, model, folder, seed, counted = job
+    cape, model, folder, seed = job
     program = Program(seed)
     path = os.path.join(folder, f"image{os.getpid()}")
     with open(path, "wb") as file:
         file.write(image(program.words))
-    # The level of the model's grammar that has the option; without counts it need not carry out the operations.
-    environment = {"CAPE_REF_LEVEL": "13"} if counted else {"CAPE_REF_LEVEL": "5", "CAPE_REF_FAST": "1"}
-    options = program.options + (["--counts"] if counted else [])
-    theirs = told_by(model, path, options, environment)
-    ours = told_by(cape, path, options, {})
+    # The level of the model's grammar that has these options; it need not carry out the operations.
+    theirs = told_by(model, path, program.options, {"CAPE_REF_LEVEL": "5", "CAPE_REF_FAST": "1"})
+    ours = told_by(cape, path, program.options, {})
     status, report = program.end
     planned = theirs[0] == f"status {status}" and any(line.startswith(report) for line in theirs)
     end = "trapped" if planned and status == 121 and "trap" in report else "exited" if planned else "ended otherwise"
     difference = None if ours == theirs else first_difference(ours, theirs)
-    return seed, end, " ".join(options), difference
+    return seed, end, " ".join(program.options), difference
 
 
-def compare(cape, model, folder, first, last, counted):
+def compare(cape, model, folder, first, last):
     ends = collections.Counter()
     different = []
     unplanned = []
     with multiprocessing.Pool(2) as pool:
-        jobs = ((cape, model, folder, seed, counted) for seed in range(first, last + 1))
+        jobs = ((cape, model, folder, seed) for seed in range(first, last + 1))
         for seed, end, options, difference in pool.imap(compared, jobs):
             ends[end] += 1
             if difference is not None:
@@ -466,4 +464,4 @@ if __name__ == "__main__":
     if sys.argv[1] == "image":
         write_image(int(sys.argv[2]), sys.argv[3])
     else:
-        compare(*sys.argv[2:5], int(sys.argv[5]), int(sys.argv[6]), "--counts" in sys.argv[7:])
+        compare(*sys.argv[2:5], int(sys.argv[5]), int(sys.argv[6]))

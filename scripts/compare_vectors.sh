@@ -3,20 +3,14 @@
 # integers that add, subtract, compare, choose, merge, move or act bit by bit: all forms, settings, masks, policies and first
 # elements, equal and overlapping registers, nine in ten legal, at VLEN 32, 64, 128, 1,024 and, one in forty, 65,536. The
 # programs are told by their seeds. Skips where the model is missing.
-#   scripts/compare_vectors.sh [--counts] [CAPE] [FIRST] [LAST]
-#     --counts     compares the counts as well
+#   scripts/compare_vectors.sh [CAPE] [FIRST] [LAST]
 #     CAPE         the built program, crates/cape/out/cape by default
 #     FIRST, LAST  the seeds, 1 to 2,000 by default
 # The program of one seed is written, and its options are shown, by: python3 -B scripts/compare_vectors.py image SEED FILE
 source "$(dirname "$0")/common.sh"
-counts=
-if [ "${1:-}" = --counts ]; then
-    counts=--counts
-    shift
-fi
 cape=${1:-$top/crates/cape/out/cape}
 first=${2:-1}
 last=${3:-2000}
 need_beside "$model"
 need_built "$cape" cape
-python3 -B "$top/scripts/compare_vectors.py" compare "$cape" "$model" "$work" "$first" "$last" $counts
+python3 -B "$top/scripts/compare_vectors.py" compare "$cape" "$model" "$work" "$first" "$last"

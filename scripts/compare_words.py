@@ -1,7 +1,7 @@
-"""Makes cases of vector words for crates/word_probe, and asks the executable model about them.
+"""Makes cases of vector words for crates/library_probe, and asks the executable model about them.
 
-    compare_words.py make COUNT SEED          writes lines `WORD VTYPE VSTART VLEN`
-    compare_words.py ask MODEL CASES ANSWERS  compares the model's answers with those of word_probe
+    compare_words.py make COUNT SEED          writes lines `word WORD VTYPE VSTART VLEN`
+    compare_words.py ask MODEL CASES ANSWERS  compares the model's answers with those of library_probe
 """
 
 import collections
@@ -101,7 +101,7 @@ def make(count, seed):
         word = rng.choice(kinds)(rng)
         vlen = rng.choice(VLENS)
         vstart = 0 if rng.random() < 0.6 else rng.randrange(min(vlen, 64))
-        print(f"{word:08x} {vector_type(rng):08x} {vstart} {vlen}")
+        print(f"word {word:08x} {vector_type(rng):08x} {vstart} {vlen}")
 
 
 # vsetvl x0, x6, x5; csrrw x0, vstart, x7
@@ -118,9 +118,9 @@ def image_of(word, vtype, vstart):
 
 
 def told_by(model, folder, case):
-    """What the model tells of a case, in the form of word_probe, and the name in its listing: by the listing of the word it
+    """What the model tells of a case, in the form of library_probe, and the name in its listing: by the listing of the word it
     has a row, and by its trap it is illegal."""
-    word, vtype, vstart, vlen = int(case[0], 16), int(case[1], 16), int(case[2]), case[3]
+    word, vtype, vstart, vlen = int(case[1], 16), int(case[2], 16), int(case[3]), case[4]
     path = os.path.join(folder, str(os.getpid()))
     with open(path, "wb") as file:
         file.write(image_of(word, vtype, vstart))

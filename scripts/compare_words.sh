@@ -6,9 +6,9 @@
 source "$(dirname "$0")/common.sh"
 count=${1:-120000}
 seed=${2:-1}
-probe=$top/crates/word_probe/out/word_probe
+probe=$top/crates/library_probe/out/library_probe
 need_beside "$model"
-need_built "$probe" word_probe
+need_built "$probe" library_probe
 python3 -B "$top/scripts/compare_words.py" make "$count" "$seed" >"$work/cases" || exit 2
 "$probe" <"$work/cases" >"$work/answers" || exit 2
 python3 -B "$top/scripts/compare_words.py" ask "$model" "$work/cases" "$work/answers"

@@ -72,30 +72,3 @@ fn is_new_row(row: u8, pairs: &[(u8, bool)]) -> bool
     }
     true
 }
-
-#[cfg(test)]
-mod tests {
-    use super::*;
-    use std::test::Fail;
-
-    #[test]
-    fn keeps_pairs_of_rows_that_are_apart(rt: HostRuntime) -> Result<(), Fail> {
-        let pairs = [(63, true), (0, false), (7, true), (8, true)];
-        for count in 0..5 {
-            let keys = Keys::new(&pairs[..count]).ok_or("no keys")?;
-            assert_eq!(rt; keys.as_slice(), &pairs[..count], "at {count}");
-        }
-        Ok(())
-    }
-
-    #[test]
-    fn refuses_other_pairs(rt: HostRuntime) {
-        let five = [(0, true), (1, true), (2, true), (3, true), (4, true)];
-        assert!(rt; Keys::new(&five).is_none(), "five pairs");
-        assert!(rt; Keys::new(&[(64, true)]).is_none(), "row 64");
-        assert!(rt;
-            Keys::new(&[(5, true), (9, true), (5, false)]).is_none(),
-            "row 5 twice"
-        );
-    }
-}

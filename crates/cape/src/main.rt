@@ -1,20 +1,8 @@
-//! The top call: it reads the words, loads an image, runs it and reports. The program calls it with the real devices.
+//! The program `cape`: it gives the words of its command line to the top call, with the real devices.
 #![tactic(auto)]
 
-mod ending;
-mod layout;
-mod lines;
-mod loading;
-mod running;
-mod state;
-#[cfg(test)]
-mod tests;
-mod text;
-mod top;
-mod words;
-
-use crate::top::cape;
 use cape_io::{DiskFiles, StdSink, StdSource};
+use cape_top::cape;
 use std::env::Env;
 use std::process::ExitCode;
 use std::{env, io};

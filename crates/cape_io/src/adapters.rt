@@ -228,6 +228,3 @@ impl<'a, R: FileSystem> Files for DiskFiles<'a, R> {
         }
     }
 }
-
-#[cfg(test)]
-mod tests;

@@ -12,8 +12,6 @@ mod files;
 mod shelf;
 mod sinks;
 mod sources;
-#[cfg(test)]
-mod tests;
 
 pub use adapters::{DiskFiles, StdSink, StdSource};
 pub use devices::{Failed, Files, Sink, Source};

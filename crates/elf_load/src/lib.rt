@@ -15,8 +15,6 @@ mod region_list;
 mod regions;
 mod segment_faults;
 mod spans;
-#[cfg(test)]
-mod tests;
 
 pub use faults::LoadFault;
 pub use loaded::Loaded;

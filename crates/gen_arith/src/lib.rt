@@ -7,8 +7,6 @@ mod choosing;
 mod comparing;
 mod folding;
 mod steps;
-#[cfg(test)]
-mod tests;
 
 pub use adding::{emit_adc, emit_add, emit_sbc, emit_sub};
 pub use choosing::{emit_max, emit_maxu, emit_min, emit_minu};

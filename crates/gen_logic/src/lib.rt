@@ -11,6 +11,3 @@ pub use moves::{emit_merge, emit_move};
 pub use table_kinds::{
     emit_and, emit_andn, emit_nand, emit_nor, emit_or, emit_orn, emit_xnor, emit_xor,
 };
-
-#[cfg(test)]
-mod tests;

@@ -7,8 +7,6 @@ mod descriptors;
 mod numbers;
 mod ranges;
 mod reads;
-#[cfg(test)]
-mod tests;
 mod writes;
 
 pub use answers::{EnvFault, EnvFlow};

@@ -8,8 +8,6 @@ mod pages;
 mod permissions;
 mod regions;
 mod stored_page;
-#[cfg(test)]
-mod tests;
 
 pub use faults::{MemFault, Trap};
 pub use pages::Mem;

@@ -4,7 +4,10 @@
 
 mod answers;
 mod built;
-mod core_state;
+mod fetching;
+mod parts;
+mod steps;
+mod vectors;
 
 pub use answers::{DeviceFault, Step};
-pub use core_state::Machine;
+pub use parts::Machine;

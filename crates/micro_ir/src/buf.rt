@@ -110,36 +110,3 @@ fn add(counts: &mut Counts, op: &MicroOp)
         MicroOp::Window { .. } | MicroOp::Free { .. } | MicroOp::PackMask { .. } => {}
     }
 }
-
-#[cfg(test)]
-mod tests {
-    use super::*;
-    use std::test::Fail;
-
-    #[test]
-    fn room_goes_down_and_comes_back(rt: HostRuntime) -> Result<(), Fail> {
-        let mut buf = MicroBuf::new(rt.alloc(), 2)?;
-        assert_eq!(rt; (buf.ops().len(), buf.spare()), (0, 2));
-        buf.push(MicroOp::Pass { up: true, times: 3 });
-        buf.push(MicroOp::Pass {
-            up: false,
-            times: 4,
-        });
-        assert_eq!(rt; (buf.ops().len(), buf.spare()), (2, 0));
-        for (op, want) in buf.ops().iter().zip([3, 4]) {
-            let MicroOp::Pass { up: _, times } = op else {
-                return Err("a pass".into());
-            };
-            assert_eq!(rt; *times, want);
-        }
-        let made = Counts {
-            searches: 0,
-            updates: 0,
-            passes: 7,
-        };
-        assert_eq!(rt; buf.tally(), made);
-        buf.clear();
-        assert_eq!(rt; (buf.ops().len(), buf.spare()), (0, 2));
-        Ok(())
-    }
-}

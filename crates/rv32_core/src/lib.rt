@@ -7,8 +7,6 @@ mod arithmetic;
 mod control_registers;
 mod execution;
 mod regs;
-#[cfg(test)]
-mod tests;
 mod transfers;
 mod traps;
 

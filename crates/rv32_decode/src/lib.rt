@@ -10,8 +10,6 @@ mod groups;
 mod instruction;
 mod opcodes;
 mod operations;
-#[cfg(test)]
-mod tests;
 
 pub use decoder::{decode, no_word_fits_two_rows};
 pub use instruction::Instr;

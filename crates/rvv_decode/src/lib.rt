@@ -14,8 +14,6 @@ mod memory;
 mod op_v;
 mod opi;
 mod opm;
-#[cfg(test)]
-mod tests;
 
 use fields::{LOAD_FP, OP_V, STORE_FP, opcode};
 pub use instruction::{ConfigOp, Form, MemoryOp, OpiOp, OpmOp, VInstr, VOp};

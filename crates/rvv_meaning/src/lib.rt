@@ -3,8 +3,6 @@
 #![tactic(auto)]
 
 mod readers;
-#[cfg(test)]
-mod tests;
 
 use guest_mem::Trap;
 pub use readers::{el, mask_bit};

@@ -1,8 +1,6 @@
 //! The network that moves bits between the columns of a chain.
 #![tactic(auto)]
 
-#[cfg(test)]
-mod board;
 mod packing;
 mod windows;
 

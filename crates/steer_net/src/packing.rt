@@ -71,36 +71,3 @@ fn put_bit(words: &mut [u32; MAX_COLUMNS], number: u32, bit: bool)
     let place = 1 << (number % subarrays);
     words[(number / subarrays) as usize] = if bit { word | place } else { word & !place };
 }
-
-#[cfg(test)]
-mod tests {
-    use super::*;
-    use crate::board::{masked_board, words};
-    use crate::windows::MASK;
-
-    // The rows of the bits, of the elements that count, and of what is packed.
-    const FROM: u8 = 41;
-
-    const UNDER: u8 = 32;
-
-    const TO: u8 = 50;
-
-    #[test]
-    fn the_highest_bits_of_the_elements_that_count(rt: HostRuntime) {
-        let mut board = masked_board();
-        // Of eight bits the elements 1, 2, 3 and 7 count, and 1, 3 and 6 have their highest bit.
-        for (sub, col) in [(6, 0), (15, 0), (23, 0), (31, 0), (31, 1)] {
-            board.set_bit(sub, UNDER, col, true);
-        }
-        for (sub, col) in [(15, 0), (22, 0), (31, 0), (23, 1), (30, 1)] {
-            board.set_bit(sub, FROM, col, true);
-        }
-        pack_mask(&mut board, FROM, UNDER, MASK, 8, 0);
-        assert_eq!(rt; words(&board, MASK), [0x3b, 3]);
-        // The elements have the numbers 60 to 63.
-        pack_mask(&mut board, FROM, UNDER, TO, 16, 60);
-        assert_eq!(rt; words(&board, TO), [0, 0x3000_0000]);
-        pack_mask(&mut board, FROM, UNDER, UNDER, 1, 0);
-        assert_eq!(rt; words(&board, UNDER), [0x8000_8000, 0]);
-    }
-}

@@ -12,7 +12,7 @@ pub(crate) const MAX_COLUMNS: usize = 2048;
 pub(crate) const SUBARRAYS: u8 = 32;
 
 // The register that is the mask.
-pub(crate) const MASK: u8 = 0;
+const MASK: u8 = 0;
 
 /// Which elements of a row become ones: `on` and `off` say it of an element from `from` on and
 /// below `to`, where its bit of the mask is 1 and where it is 0, and `tail` says it of an element
@@ -243,50 +243,5 @@ fn is_set(mask: &[u32; MAX_COLUMNS], number: u64) -> bool
     match mask.get((number / u64::from(SUBARRAYS)) as usize) {
         Some(word) => (*word >> (number % u64::from(SUBARRAYS)) as u32) & 1 == 1,
         None => false,
-    }
-}
-
-#[cfg(test)]
-mod tests {
-    use super::*;
-    use crate::board::{masked_board, words};
-
-    #[test]
-    fn windows_of_each_width(rt: HostRuntime) {
-        let mut board = masked_board();
-        window(&mut board, 40, 32, 0, 1, 2, false);
-        assert_eq!(rt; words(&board, 40), [0, 0xffff_ffff]);
-        // The elements have the numbers 4 to 7.
-        window(&mut board, 40, 16, 4, 5, 7, false);
-        assert_eq!(rt; words(&board, 40), [0xffff_0000, 0x0000_ffff]);
-        window(&mut board, 40, 8, 0, 1, 6, true);
-        assert_eq!(rt; words(&board, 40), [0x00ff_0000, 0x0000_ffff]);
-        window(&mut board, 40, 1, 0, 3, 33, true);
-        assert_eq!(rt; words(&board, 40), [0x30, 1]);
-        assert_eq!(rt; words(&board, 0), [0x35, 3]);
-        assert_eq!(rt; words(&board, 41), [0, 0]);
-    }
-
-    #[test]
-    fn the_mask_is_read_before_it_is_written(rt: HostRuntime) {
-        let mut board = masked_board();
-        window(&mut board, MASK, 8, 0, 0, 8, true);
-        assert_eq!(rt; words(&board, MASK), [0x00ff_00ff, 0x0000_ffff]);
-    }
-
-    #[test]
-    fn free_elements(rt: HostRuntime) {
-        let mut board = masked_board();
-        for (tail, off, row) in [
-            (true, true, [0xff00_ff00, 0xffff_0000]),
-            (true, false, [0, 0xffff_0000]),
-            (false, true, [0xff00_ff00, 0]),
-            (false, false, [0, 0]),
-        ] {
-            free(&mut board, 52, 8, 0, 1, 6, true, tail, off);
-            assert_eq!(rt; words(&board, 52), row);
-        }
-        free(&mut board, 52, 32, 2, 0, 3, false, true, true);
-        assert_eq!(rt; words(&board, 52), [0, 0xffff_ffff]);
     }
 }

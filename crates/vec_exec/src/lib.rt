@@ -5,7 +5,5 @@ mod kinds;
 mod operands;
 mod planning;
 mod registers;
-#[cfg(test)]
-mod tests;
 
 pub use planning::{engine, plan};

@@ -6,8 +6,6 @@ mod configuration;
 mod intervals;
 mod legality;
 mod operands;
-#[cfg(test)]
-mod tests;
 mod vtype;
 
 pub use configuration::{Avl, Cfg, Policy, set_vl};

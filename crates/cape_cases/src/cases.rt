@@ -1,0 +1,132 @@
+//! Cases: what they ask for, and what is told of them.
+use crate::files::file_of;
+use crate::parts::{
+    Fault, Shown, Unread, bytes_of, fault_of, push_image, row_of, shown_of, words_of,
+};
+use crate::runs::end_of;
+use crate::texts::push_ended;
+use std::alloc::{AllocError, Global};
+
+// What begins a comment.
+const COMMENT: char = '#';
+
+// What is told of a case of no form.
+const NO_FORM: &str = "form\n";
+
+/// What a case gave so far: the file `A`, the input, the calls of devices that fail, and what is told of a machine.
+#[derive(Drop)]
+pub(crate) struct Case {
+    pub image: Vec<u32>,
+    pub is_code: bool,
+    pub cut: Option<usize>,
+    pub input: Vec<u8>,
+    pub file_fails: Vec<u64>,
+    pub input_fails: Vec<u64>,
+    pub out_fails: Vec<(u64, usize)>,
+    pub err_fails: Vec<(u64, usize)>,
+    pub shown: Vec<Shown>,
+}
+
+impl Case {
+    // An empty file, no input, and devices that do not fail.
+    fn new(alloc: Global) -> Case {
+        Case {
+            image: Vec::new(alloc),
+            is_code: false,
+            cut: None,
+            input: Vec::new(alloc),
+            file_fails: Vec::new(alloc),
+            input_fails: Vec::new(alloc),
+            out_fails: Vec::new(alloc),
+            err_fails: Vec::new(alloc),
+            shown: Vec::new(alloc),
+        }
+    }
+
+    // Adds a call that fails.
+    fn push_fault(&mut self, fault: Fault) -> Result<(), Unread> {
+        match fault {
+            Fault::File(call) => self.file_fails.push(call)?,
+            Fault::Input(call) => self.input_fails.push(call)?,
+            Fault::Out(call, bytes) => self.out_fails.push((call, bytes))?,
+            Fault::Err(call, bytes) => self.err_fails.push((call, bytes))?,
+        }
+        Ok(())
+    }
+
+    // Adds what a `show` line asks for.
+    fn push_shown(&mut self, text: &str) -> Result<(), Unread> {
+        for part in text.split_whitespace() {
+            self.shown.push(shown_of(part).ok_or(Unread::Form)?)?;
+        }
+        Ok(())
+    }
+
+    // The bytes of the file `A`.
+    fn file(&self, alloc: Global) -> Result<Vec<u8>, Unread> {
+        let mut file = file_of(alloc, &self.image, self.is_code)?;
+        if let Some(length) = self.cut {
+            file.truncate(length);
+        }
+        Ok(file)
+    }
+
+    // Calls the top call with these words, and appends what is told of it.
+    fn push_call(&self, alloc: Global, told: &mut String, text: &str) -> Result<(), Unread> {
+        let words = words_of(alloc, text)?;
+        let ended = end_of(alloc, &words, self, &self.file(alloc)?)?;
+        push_ended(told, &ended, &self.shown)?;
+        Ok(())
+    }
+
+    // Takes a line, and appends what is told of it.
+    fn take_line(&mut self, alloc: Global, told: &mut String, line: &str) -> Result<(), Unread> {
+        let (head, text) = line.split_once(' ').unwrap_or((line, ""));
+        match head {
+            "case" => writeln!(told, "{line}")?,
+            "call" => {
+                writeln!(told, "{line}")?;
+                self.push_call(alloc, told, text)?;
+            }
+            "code" => {
+                self.is_code = true;
+                push_image(&mut self.image, text)?;
+            }
+            "image" => push_image(&mut self.image, text)?,
+            "cut" => self.cut = Some(text.parse().or(Err(Unread::Form))?),
+            "input" => self.input = bytes_of(alloc, text)?,
+            "fails" => self.push_fault(fault_of(text).ok_or(Unread::Form)?)?,
+            "show" => self.push_shown(text)?,
+            "row" => self
+                .shown
+                .push(Shown::Row(row_of(text).ok_or(Unread::Form)?))?,
+            _ => return Err(Unread::Form),
+        }
+        Ok(())
+    }
+}
+
+// Appends what is told of the lines of a case.
+fn push_told(alloc: Global, told: &mut String, lines: &str) -> Result<(), Unread> {
+    let mut case = Case::new(alloc);
+    for line in lines.lines() {
+        if !line.is_empty() && !line.starts_with(COMMENT) {
+            case.take_line(alloc, told, line)?;
+        }
+    }
+    Ok(())
+}
+
+/// What is told of a case, and an empty line. Of lines that are comments, nothing is told.
+pub(crate) fn told_of(alloc: Global, lines: &str) -> Result<String, AllocError> {
+    let mut told = String::new(alloc);
+    match push_told(alloc, &mut told, lines) {
+        Ok(()) => {}
+        Err(Unread::Form) => told.push_str(NO_FORM)?,
+        Err(Unread::NoMemory) => return Err(AllocError),
+    }
+    if !told.is_empty() {
+        told.push('\n')?;
+    }
+    Ok(told)
+}

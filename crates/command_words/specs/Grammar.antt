@@ -1,0 +1,160 @@
+-- The words of a command line: `run IMAGE [--vlen N] [--steps N] [--agnostic keep|ones] [--state]`, the options in any
+-- order and each at most once, or `check IMAGE`.
+use Rattle.std.specs.Prelude.{ℕ, ◌+◌, ◌-◌, ◌*◌, ◌≤◌, Bool, true, false, List, ◌∷◌, [], codes, length, ◌==◌, not, ◌&&◌, nat_lt, nat_le, if◌then◌else◌, Option, Some, None, IsTrue, ⊤}
+use Rattle.std.specs.Option.{unwrap_or, option_map_or}
+use Rattle.std.specs.Str.{bytes_eq}
+use Rattle.vtype_cfg.specs.Settings.{is_legal_vlen}
+use Rattle.vtype_cfg.specs.declared.configuration.Policy.{Policy}
+use Rattle.vtype_cfg.specs.declared.configuration.Policy.TheVariants.{Keep, Ones}
+use Rattle.command_words.specs.declared.words.Command.{Command}
+use Rattle.command_words.specs.declared.words.Command.TheVariants.{Run, Check}
+use Rattle.command_words.specs.declared.words.Flag.{Flag}
+use Rattle.command_words.specs.declared.words.Flag.TheVariants.{State}
+use Rattle.command_words.specs.declared.words.Given.{Given}
+use Rattle.command_words.specs.declared.words.RunOptions.{RunOptions}
+use Rattle.command_words.specs.declared.words.Valued.{Valued}
+use Rattle.command_words.specs.declared.words.Valued.TheVariants.{Steps, Vlen, Agnostic}
+
+-- a word that names a file: it is not empty and does not begin with a dash
+abbrev pub is_name : List ℕ → Bool
+is_name [] = false
+is_name (c ∷ rest) = not (c == 45)
+
+abbrev pub on_some : {A B : Type 0} → Option A → (A → Option B) → Option B
+on_some None f = None
+on_some (Some a) f = f a
+
+-- the digit of '0' to '9'
+abbrev pub digit : ℕ → Option ℕ
+digit c = if nat_le 48 c && nat_le c 57 then Some (c - 48) else None
+
+-- the number of these digits behind those of another number
+unfoldable pub digits_after : ℕ → List ℕ → Option ℕ
+digits_after n [] = Some n
+digits_after n (c ∷ rest) = on_some (digit c) (λ d. digits_after (10 * n + d) rest)
+
+-- a number has one to twenty digits, and nothing else
+abbrev pub most_digits : ℕ
+most_digits = 20
+
+abbrev pub number : List ℕ → Option ℕ
+number word = if nat_lt 0 (length word) && nat_le (length word) most_digits then digits_after 0 word else None
+
+-- a number that is no more than the most
+abbrev pub in_range : ℕ → Option ℕ → Option ℕ
+in_range most None = None
+in_range most (Some n) = if nat_le n most then Some n else None
+
+unfoldable pub number_in : ℕ → List ℕ → Option ℕ
+number_in most word = in_range most (number word)
+
+-- the most steps that a run may be given, and the steps of a run that is given none
+abbrev pub most_steps : ℕ
+most_steps = 1_000_000_000_000
+
+abbrev pub default_steps : ℕ
+default_steps = 1_000_000_000
+
+-- the length of a vector register of a run that is given none
+abbrev pub default_vlen : ℕ
+default_vlen = 1024
+
+-- the value of `--steps`
+abbrev pub steps_in : List ℕ → Option ℕ
+steps_in word = number_in most_steps word
+
+-- the value of `--vlen`: a length that a vector register may have
+abbrev pub legal : Option ℕ → Option ℕ
+legal None = None
+legal (Some n) = if is_legal_vlen n then Some n else None
+
+unfoldable pub vlen_in : List ℕ → Option ℕ
+vlen_in word = legal (number word)
+
+-- the value of `--agnostic`
+abbrev pub policy_in : List ℕ → Option Policy
+policy_in word =
+    if bytes_eq word (codes "keep") then Some Keep
+    else if bytes_eq word (codes "ones") then Some Ones
+    else None
+
+-- the options that stand alone
+abbrev pub flag_named : List ℕ → Option Flag
+flag_named word = if bytes_eq word (codes "--state") then Some State else None
+
+-- the options whose value is the next word
+abbrev pub valued_named : List ℕ → Option Valued
+valued_named word =
+    if bytes_eq word (codes "--steps") then Some Steps
+    else if bytes_eq word (codes "--vlen") then Some Vlen
+    else if bytes_eq word (codes "--agnostic") then Some Agnostic
+    else None
+
+-- the value of an option, where there was none before
+abbrev pub once : {A : Type 0} → Option A → Option A → Option A
+once None value = value
+once (Some a) value = None
+
+-- what is given with one more option, which was not given before
+abbrev pub add_flag : Flag → Given → Option Given
+add_flag State given = if given.state then None else Some (record given { state = true })
+
+abbrev pub add_value : Valued → List ℕ → Given → Option Given
+add_value Steps value given = on_some (once given.steps (steps_in value)) (λ n. Some (record given { steps = Some n }))
+add_value Vlen value given = on_some (once given.vlen (vlen_in value)) (λ n. Some (record given { vlen = Some n }))
+add_value Agnostic value given = on_some (once given.policy (policy_in value)) (λ p. Some (record given { policy = Some p }))
+
+-- the options of the words, with those that were given before them
+unfoldable pub options_after : Given → List (List ℕ) → Option Given
+options_after given [] = Some given
+options_after given (word ∷ []) = on_some (flag_named word) (λ flag. add_flag flag given)
+options_after given (word ∷ value ∷ rest) =
+    option_map_or
+    (λ flag. on_some (add_flag flag given) (λ g. options_after g (value ∷ rest)))
+    (flag_named word)
+    (on_some (valued_named word) (λ option. on_some (add_value option value given) (λ g. options_after g rest)))
+
+-- nothing is given
+abbrev pub none_given : Given
+none_given = record { steps = None; vlen = None; policy = None; state = false }
+
+-- a run with these options
+abbrev pub run_with : Given → Command
+run_with given =
+    Run record {
+      steps = unwrap_or given.steps default_steps;
+      state = given.state;
+      vlen = unwrap_or given.vlen default_vlen;
+      policy = unwrap_or given.policy Keep;
+    }
+
+-- a check takes no options
+abbrev pub check_with : List (List ℕ) → Option Command
+check_with [] = Some Check
+check_with (word ∷ rest) = None
+
+-- the command of its first word, with the words behind its operand
+abbrev pub named : List ℕ → List (List ℕ) → Option Command
+named word rest =
+    if bytes_eq word (codes "run") then on_some (options_after none_given rest) (λ given. Some (run_with given))
+    else if bytes_eq word (codes "check") then check_with rest
+    else None
+
+abbrev pub command_of : List (List ℕ) → Option Command
+command_of (command ∷ image ∷ rest) = if is_name image then named command rest else None
+command_of words = None
+
+-- the steps are in their range, and a vector register may have the length
+pub record AreInRange (options : RunOptions) : Type 0 where
+  pub steps : options.steps ≤ most_steps
+  pub vlen : IsTrue (is_legal_vlen options.vlen)
+
+-- what a command may be
+abbrev pub IsInRange : Command → Type 0
+IsInRange (Run options) = AreInRange options
+IsInRange Check = ⊤
+
+-- the command is a run
+abbrev pub IsRun : Command → Type 0
+IsRun (Run options) = ⊤
+IsRun Check = ⊥

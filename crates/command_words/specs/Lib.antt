@@ -1,0 +1,2 @@
+-- The grammar of a command line.
+pub mod Grammar

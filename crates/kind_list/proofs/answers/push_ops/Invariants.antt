@@ -1,7 +1,0 @@
-use Rattle.std.proofs.Common.{◌≡◌, ◌++◌, drop, string_bytes}
-use Rattle.kind_list.specs.Texts.{ops_text}
-use Rattle.kind_list.proofs.answers.push_ops.Given as goal
-
--- the operations that are left make the text
-abbrev pub invariant-loop-op : goal.invariant-loop-op
-invariant-loop-op l = string_bytes l.text ++ ops_text (drop l.op-index l.ops) ≡ string_bytes l.fn.text ++ ops_text l.ops

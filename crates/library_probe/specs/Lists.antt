@@ -1,0 +1,78 @@
+-- The list of a kind.
+use Rattle.std.specs.Prelude.{ℕ, List}
+use Rattle.micro_ir.specs.declared.op.MicroOp.{MicroOp}
+use Rattle.micro_ir.specs.declared.place.Place.{Place}
+use Rattle.micro_ir.specs.Steps.{Step, micros}
+use Rattle.gen_arith.specs.Recipes.{sum_steps, add, sub, adc, sbc, truth_steps, madc, madc_in, msbc, msbc_in, eq, ne, ltu, lt, leu, le, gtu, gt, choice_steps, first_on, second_on}
+use Rattle.gen_logic.specs.Recipes.{table_steps, and_on, or_on, xor_on, nand_on, nor_on, xnor_on, andn_on, orn_on, move_steps, merge_steps}
+use Rattle.library_probe.specs.declared.kinds.Size.{Size}
+use Rattle.library_probe.specs.declared.kinds.Size.TheVariants.{Byte, Half, Word}
+use Rattle.library_probe.specs.declared.kinds.Bitwise.{Bitwise}
+use Rattle.library_probe.specs.declared.kinds.Bitwise.TheVariants.{And, Or, Xor, Nand, Nor, Xnor, Andn, Orn, Move, Merge}
+use Rattle.library_probe.specs.declared.kinds.Added.{Added}
+use Rattle.library_probe.specs.declared.kinds.Added.TheVariants.{Add, Sub, Adc, Sbc}
+use Rattle.library_probe.specs.declared.kinds.Truth.{Truth}
+use Rattle.library_probe.specs.declared.kinds.Truth.TheVariants.{Madc, MadcIn, Msbc, MsbcIn, Eq, Ne, Ltu, Lt, Leu, Le, Gtu, Gt}
+use Rattle.library_probe.specs.declared.kinds.Choice.{Choice}
+use Rattle.library_probe.specs.declared.kinds.Choice.TheVariants.{Minu, Min, Maxu, Max}
+use Rattle.library_probe.specs.declared.kinds.Kind.{Kind}
+use Rattle.library_probe.specs.declared.kinds.Kind.TheVariants.{Bits, Sum, Tells, Chooses}
+
+-- the bits of an element
+abbrev pub bits_of : Size → ℕ
+bits_of Byte = 8
+bits_of Half = 16
+bits_of Word = 32
+
+-- the steps of a kind that acts bit by bit, from the width and the place
+abbrev pub bitwise_steps : Bitwise → ℕ → Place → List Step
+bitwise_steps And w at = table_steps w and_on at.a at.b at.to
+bitwise_steps Or w at = table_steps w or_on at.a at.b at.to
+bitwise_steps Xor w at = table_steps w xor_on at.a at.b at.to
+bitwise_steps Nand w at = table_steps w nand_on at.a at.b at.to
+bitwise_steps Nor w at = table_steps w nor_on at.a at.b at.to
+bitwise_steps Xnor w at = table_steps w xnor_on at.a at.b at.to
+bitwise_steps Andn w at = table_steps w andn_on at.a at.b at.to
+bitwise_steps Orn w at = table_steps w orn_on at.a at.b at.to
+bitwise_steps Move w at = move_steps w at.b at.to
+bitwise_steps Merge w at = merge_steps w at.a at.b at.to
+
+-- the steps of a sum or a difference
+abbrev pub added_steps : Added → ℕ → Place → List Step
+added_steps Add w at = sum_steps add w at.a at.b at.to
+added_steps Sub w at = sum_steps sub w at.a at.b at.to
+added_steps Adc w at = sum_steps adc w at.a at.b at.to
+added_steps Sbc w at = sum_steps sbc w at.a at.b at.to
+
+-- the steps of a carry or a comparison, whose truth goes into no register
+abbrev pub told_steps : Truth → ℕ → Place → List Step
+told_steps Madc w at = truth_steps madc w at.a at.b
+told_steps MadcIn w at = truth_steps madc_in w at.a at.b
+told_steps Msbc w at = truth_steps msbc w at.a at.b
+told_steps MsbcIn w at = truth_steps msbc_in w at.a at.b
+told_steps Eq w at = truth_steps eq w at.a at.b
+told_steps Ne w at = truth_steps ne w at.a at.b
+told_steps Ltu w at = truth_steps ltu w at.a at.b
+told_steps Lt w at = truth_steps lt w at.a at.b
+told_steps Leu w at = truth_steps leu w at.a at.b
+told_steps Le w at = truth_steps le w at.a at.b
+told_steps Gtu w at = truth_steps gtu w at.a at.b
+told_steps Gt w at = truth_steps gt w at.a at.b
+
+-- the steps of the lesser or the greater of two
+abbrev pub chosen_steps : Choice → ℕ → Place → List Step
+chosen_steps Minu w at = choice_steps ltu first_on w at.a at.b at.to
+chosen_steps Min w at = choice_steps lt first_on w at.a at.b at.to
+chosen_steps Maxu w at = choice_steps ltu second_on w at.a at.b at.to
+chosen_steps Max w at = choice_steps lt second_on w at.a at.b at.to
+
+-- the steps of any kind
+abbrev pub kind_steps : Kind → ℕ → Place → List Step
+kind_steps (Bits kind) w at = bitwise_steps kind w at
+kind_steps (Sum kind) w at = added_steps kind w at
+kind_steps (Tells kind) w at = told_steps kind w at
+kind_steps (Chooses kind) w at = chosen_steps kind w at
+
+-- the micro-operations of a kind
+abbrev pub kind_ops : Kind → Size → Place → List MicroOp
+kind_ops kind size at = micros (bits_of size) (kind_steps kind (bits_of size) at)

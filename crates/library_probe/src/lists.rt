@@ -1,0 +1,138 @@
+//! The list of a kind.
+ghost use Rattle.std.specs.Prelude.{◌≡◌, ◌+◌, ◌*◌, ◌<◌, ◌≤◌, ◌++◌, IfOk};
+ghost use Rattle.micro_ir.specs.Steps.{micros};
+ghost use Rattle.micro_ir.specs.WorkRows.{IsOperandRow};
+ghost use Rattle.library_probe.specs.Lists.{bitwise_steps, added_steps, told_steps, chosen_steps, kind_steps, kind_ops};
+
+use crate::kinds::{Added, Bitwise, Choice, Kind, Size, Truth};
+use bit_laws::{W8, W16, W32, Width};
+use gen_arith::{
+    emit_adc, emit_add, emit_eq, emit_gt, emit_gtu, emit_le, emit_leu, emit_lt, emit_ltu,
+    emit_madc, emit_madc_in, emit_max, emit_maxu, emit_min, emit_minu, emit_msbc, emit_msbc_in,
+    emit_ne, emit_sbc, emit_sub,
+};
+use gen_logic::{
+    emit_and, emit_andn, emit_merge, emit_move, emit_nand, emit_nor, emit_or, emit_orn, emit_xnor,
+    emit_xor,
+};
+use micro_ir::{MicroBuf, Place};
+use std::alloc::{AllocError, Global};
+
+// No list of a kind is longer.
+const MOST_OPS: u32 = 1024;
+
+/// Appends the list of a kind that acts bit by bit.
+fn emit_bitwise<W: Width>(buf: &mut MicroBuf, kind: Bitwise, at: &Place)
+    requires a { IsOperandRow at.now.a }
+    requires b { IsOperandRow at.now.b }
+    requires to { at.now.to < 32 }
+    requires room { 12 * W.BITS + 11 ≤ buf.old.spare }
+    ensures { buf.new.ops ≡ buf.old.ops ++ micros W.BITS (bitwise_steps kind W.BITS at.now) }
+{
+    W::laws();
+    match kind {
+        Bitwise::And => emit_and::<W>(buf, at),
+        Bitwise::Or => emit_or::<W>(buf, at),
+        Bitwise::Xor => emit_xor::<W>(buf, at),
+        Bitwise::Nand => emit_nand::<W>(buf, at),
+        Bitwise::Nor => emit_nor::<W>(buf, at),
+        Bitwise::Xnor => emit_xnor::<W>(buf, at),
+        Bitwise::Andn => emit_andn::<W>(buf, at),
+        Bitwise::Orn => emit_orn::<W>(buf, at),
+        Bitwise::Move => emit_move::<W>(buf, at),
+        Bitwise::Merge => emit_merge::<W>(buf, at),
+    }
+}
+
+/// Appends the list of a sum or a difference.
+fn emit_added<W: Width>(buf: &mut MicroBuf, kind: Added, at: &Place)
+    requires a { IsOperandRow at.now.a }
+    requires b { IsOperandRow at.now.b }
+    requires to { at.now.to < 32 }
+    requires room { 12 * W.BITS + 11 ≤ buf.old.spare }
+    ensures { buf.new.ops ≡ buf.old.ops ++ micros W.BITS (added_steps kind W.BITS at.now) }
+{
+    match kind {
+        Added::Add => emit_add::<W>(buf, at),
+        Added::Sub => emit_sub::<W>(buf, at),
+        Added::Adc => emit_adc::<W>(buf, at),
+        Added::Sbc => emit_sbc::<W>(buf, at),
+    }
+}
+
+/// Appends the list of a comparison or a carry.
+fn emit_told<W: Width>(buf: &mut MicroBuf, kind: Truth, at: &Place)
+    requires a { IsOperandRow at.now.a }
+    requires b { IsOperandRow at.now.b }
+    requires to { at.now.to < 32 }
+    requires room { 12 * W.BITS + 11 ≤ buf.old.spare }
+    ensures { buf.new.ops ≡ buf.old.ops ++ micros W.BITS (told_steps kind W.BITS at.now) }
+{
+    match kind {
+        Truth::Madc => emit_madc::<W>(buf, at),
+        Truth::MadcIn => emit_madc_in::<W>(buf, at),
+        Truth::Msbc => emit_msbc::<W>(buf, at),
+        Truth::MsbcIn => emit_msbc_in::<W>(buf, at),
+        Truth::Eq => emit_eq::<W>(buf, at),
+        Truth::Ne => emit_ne::<W>(buf, at),
+        Truth::Ltu => emit_ltu::<W>(buf, at),
+        Truth::Lt => emit_lt::<W>(buf, at),
+        Truth::Leu => emit_leu::<W>(buf, at),
+        Truth::Le => emit_le::<W>(buf, at),
+        Truth::Gtu => emit_gtu::<W>(buf, at),
+        Truth::Gt => emit_gt::<W>(buf, at),
+    }
+}
+
+/// Appends the list of the lesser or the greater of two.
+fn emit_chosen<W: Width>(buf: &mut MicroBuf, kind: Choice, at: &Place)
+    requires a { IsOperandRow at.now.a }
+    requires b { IsOperandRow at.now.b }
+    requires to { at.now.to < 32 }
+    requires room { 12 * W.BITS + 11 ≤ buf.old.spare }
+    ensures { buf.new.ops ≡ buf.old.ops ++ micros W.BITS (chosen_steps kind W.BITS at.now) }
+{
+    match kind {
+        Choice::Minu => emit_minu::<W>(buf, at),
+        Choice::Min => emit_min::<W>(buf, at),
+        Choice::Maxu => emit_maxu::<W>(buf, at),
+        Choice::Max => emit_max::<W>(buf, at),
+    }
+}
+
+/// Appends the list of a kind.
+fn emit_kind<W: Width>(buf: &mut MicroBuf, kind: Kind, at: &Place)
+    requires a { IsOperandRow at.now.a }
+    requires b { IsOperandRow at.now.b }
+    requires to { at.now.to < 32 }
+    requires room { 12 * W.BITS + 11 ≤ buf.old.spare }
+    ensures { buf.new.ops ≡ buf.old.ops ++ micros W.BITS (kind_steps kind W.BITS at.now) }
+{
+    match kind {
+        Kind::Bits(kind) => emit_bitwise::<W>(buf, kind, at),
+        Kind::Sum(kind) => emit_added::<W>(buf, kind, at),
+        Kind::Tells(kind) => emit_told::<W>(buf, kind, at),
+        Kind::Chooses(kind) => emit_chosen::<W>(buf, kind, at),
+    }
+}
+
+/// The list of a kind.
+pub(crate) fn list_of(
+    alloc: Global,
+    kind: Kind,
+    size: Size,
+    at: &Place,
+) -> Result<MicroBuf, AllocError>
+    requires a { IsOperandRow at.now.a }
+    requires b { IsOperandRow at.now.b }
+    requires to { at.now.to < 32 }
+    ensures { IfOk result (λ buf. buf.ops ≡ kind_ops kind size at.now) }
+{
+    let mut buf = MicroBuf::new(alloc, MOST_OPS)?;
+    match size {
+        Size::Byte => emit_kind::<W8>(&mut buf, kind, at),
+        Size::Half => emit_kind::<W16>(&mut buf, kind, at),
+        Size::Word => emit_kind::<W32>(&mut buf, kind, at),
+    }
+    Ok(buf)
+}

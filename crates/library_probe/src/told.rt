@@ -1,0 +1,84 @@
+//! What is told of kinds of operation.
+ghost use Rattle.std.specs.Prelude.{◌≡◌, ◌≤◌, ◌++◌, true, length, OnOk, IfOk, string_bytes};
+ghost use Rattle.micro_ir.specs.WorkRows.{IsOperandRow};
+ghost use Rattle.library_probe.specs.Texts.{is_operand, is_place, ops_text, list_text, told_text};
+
+use crate::kinds::{kind_named, size_named};
+use crate::lists::list_of;
+use itoa::Buffer;
+use micro_ir::{LineBuf, MicroOp, Place, listing};
+use std::alloc::{AllocError, Global};
+
+// The rows below are registers.
+const REGISTERS: u8 = 32;
+
+// The rows of mask bits, of the scalar, and of wide operands.
+const MASK_ROW: u8 = 33;
+
+const SCALAR_ROW: u8 = 34;
+
+const LEFT_ROW: u8 = 55;
+
+const RIGHT_ROW: u8 = 56;
+
+// What is told of a line of another form.
+pub(crate) const NO_FORM: &str = "form\n";
+
+/// Whether a row may hold an operand.
+fn is_operand(row: u8) -> bool
+    ensures value { result ≡ is_operand row }
+    ensures holds { result ≡ true → IsOperandRow row }
+{
+    row < REGISTERS || row == MASK_ROW || row == SCALAR_ROW || row == LEFT_ROW || row == RIGHT_ROW
+}
+
+/// Appends a line for each operation.
+fn push_ops(text: &mut String, ops: &[MicroOp]) -> Result<(), AllocError>
+    ensures { OnOk result (string_bytes text.new ≡ string_bytes text.old ++ ops_text ops.now) }
+{
+    let mut line = LineBuf::new();
+    for op in ops {
+        listing(op, &mut line);
+        text.push_str(line.as_str())?;
+        text.push_str("\n")?;
+    }
+    Ok(())
+}
+
+/// The text of a list.
+fn list_text(alloc: Global, name: &str, width: &str, ops: &[MicroOp]) -> Result<String, AllocError>
+    requires { length ops.now ≤ 262144 }
+    ensures { IfOk result (λ text. string_bytes text ≡ list_text name.now width.now ops.now) }
+{
+    let mut digits = Buffer::new();
+    let mut text = String::new(alloc);
+    text.push_str("kind ")?;
+    text.push_str(name)?;
+    text.push_str(" width ")?;
+    text.push_str(width)?;
+    text.push_str(" operations ")?;
+    text.push_str(digits.format(ops.len()))?;
+    text.push_str("\n")?;
+    push_ops(&mut text, ops)?;
+    Ok(text)
+}
+
+/// What is told of a name, a width and a place.
+pub(crate) fn told_of(
+    alloc: Global,
+    name: &str,
+    width: &str,
+    at: &Place,
+) -> Result<String, AllocError>
+    ensures { IfOk result (λ text. string_bytes text ≡ told_text name.now width.now at.now) }
+{
+    let (Some(kind), Some(size)) = (kind_named(name), size_named(width)) else {
+        return String::from_str(alloc, NO_FORM);
+    };
+    if is_operand(at.a) && is_operand(at.b) && at.to < REGISTERS {
+        let buf = list_of(alloc, kind, size, at)?;
+        list_text(alloc, name, width, buf.ops())
+    } else {
+        String::from_str(alloc, NO_FORM)
+    }
+}

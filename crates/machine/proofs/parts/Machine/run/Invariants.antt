@@ -1,0 +1,16 @@
+use Rattle.std.proofs.Common.{◌≡◌, ◌+◌, ◌-◌, ◌≤◌, true}
+use Rattle.machine.specs.Views.{RunsOn}
+use Rattle.rvv_meaning.specs.declared.Mode.TheVariants.{Running}
+use Rattle.machine.proofs.parts.Machine.run.Given as goal
+
+abbrev pub invariant-loop-i : goal.invariant-loop-i
+invariant-loop-i g l = record {
+  on : RunsOn l.n (l.n - l.i) l.merged l.initial.self l.self (g.S.Source.left l.initial.input) (g.S.Source.left l.input) (g.O.Sink.held l.initial.out) (g.O.Sink.held l.out) (g.E.Sink.held l.initial.err) (g.E.Sink.held l.err);
+  running : l.self.core.mode ≡ Running;
+  live : l.self.live ≡ true;
+  count : l.self.core.csrs.retired ≤ l.initial.self.core.csrs.retired + l.i;
+  length : l.self.core.csrs.vlen ≡ l.initial.self.core.csrs.vlen;
+  later_input : g.S.Source.faults l.initial.input ≤ g.S.Source.faults l.input;
+  later_out : g.O.Sink.faults l.initial.out ≤ g.O.Sink.faults l.out;
+  later_err : g.E.Sink.faults l.initial.err ≤ g.E.Sink.faults l.err;
+}

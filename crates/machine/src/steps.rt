@@ -1,0 +1,272 @@
+// Steps and runs.
+ghost use Rattle.std.specs.Prelude.{◌≡◌, ◌+◌, ◌<◌, ◌≤◌, ◌^◌, ℕ, List, [], true, false, length, OnOk, OnErr, IfOk, IsErrOf};
+ghost use Rattle.std.specs.Io.KnownBytes.{Appends};
+ghost use Rattle.cape_io.specs.Devices.{PutsFront, Rose};
+ghost use Rattle.bit_laws.specs.Numbers.{low};
+ghost use Rattle.rv32_decode.specs.Spelling.{IsSpelled};
+ghost use Rattle.rvv_meaning.specs.declared.Meaning.TheVariants.{Scalar};
+ghost use Rattle.rvv_meaning.specs.declared.Next.TheVariants.{Perform};
+ghost use Rattle.rvv_meaning.specs.States.{next, retired_to, with_effect, effect_at, called, asked};
+ghost use Rattle.rvv_meaning.specs.Allowed.{Allowed};
+ghost use Rattle.rvv_meaning.specs.Calls.{first, named_call, asked_by, put_by};
+ghost use Rattle.guest_env.specs.Inputs.{Takes};
+ghost use Rattle.guest_env.specs.Outputs.{bytes_out, bytes_err, IsFaultOf};
+ghost use Rattle.guest_env.specs.Answers.{FailsReading, FailsWriting, IsWriting};
+ghost use Rattle.machine.specs.Answers.{answer_of};
+ghost use Rattle.machine.specs.Moments.{moment_after, moments};
+ghost use Rattle.machine.specs.Views.{CallsAt, GoesBy, FaultsIn, ReadsIn};
+ghost use Rattle.machine.specs.Carrying.{Carries, Fails};
+
+use crate::answers::{DeviceFault, Step};
+use crate::parts::{Machine, WORD_BYTES};
+use cape_io::{Sink, Source};
+use guest_env::{EnvFault, EnvFlow, call};
+use rv32_core::exec;
+use rv32_decode::Instr;
+use rvv_meaning::{Flow, Meaning, Mode, Next};
+
+impl Machine {
+    // There is no program of the last step.
+    fn forget(&mut self)
+        ensures { self.new ≡ record self.old { last = [] } }
+    {
+        self.buf.clear();
+    }
+
+    // The machine stops.
+    fn stop(&mut self, mode: Mode)
+        ensures { self.new ≡ record self.old { core = record self.old.core { mode = mode } } }
+    {
+        self.mode = mode;
+    }
+
+    // The instruction retires, and the next one is at a place.
+    pub(crate) fn retire_to(&mut self, target: u32)
+        requires { self.old.core.csrs.retired < 2 ^ 63 }
+        ensures { self.new ≡ record self.old { core = retired_to target self.old.core } }
+    {
+        self.pc = target;
+        self.csrs.retired += 1;
+    }
+
+    // The place behind the word at pc.
+    pub(crate) fn behind(&self) -> u32
+        ensures { result ≡ low 32 (self.now.core.pc + 4) }
+    {
+        self.pc.wrapping_add(WORD_BYTES)
+    }
+
+    // What a scalar instruction does to the registers, the control registers and the memory, and where the program goes
+    // on.
+    fn execute(&mut self, i: &Instr) -> Flow
+        requires { IsSpelled i.now }
+        ensures flow { result ≡ (effect_at i.now self.old.core).flow }
+        ensures core { self.new ≡ record self.old { core = with_effect (effect_at i.now self.old.core) self.old.core } }
+        ensures count { self.new.core.csrs.retired ≡ self.old.core.csrs.retired }
+        ensures length { self.new.core.csrs.vlen ≡ self.old.core.csrs.vlen }
+    {
+        exec(i, self.pc, &mut self.regs, &mut self.csrs, &mut self.mem)
+    }
+
+    // Carries out the call that the registers ask for.
+    fn call<S: Source, O: Sink, E: Sink>(
+        &mut self,
+        input: &mut S,
+        out: &mut O,
+        err: &mut E,
+        merged: bool,
+    ) -> Result<(), DeviceFault>
+        requires count { self.old.core.csrs.retired < 2 ^ 63 }
+        ensures called { OnOk result ((taken : List ℕ) × Takes (asked_by (named_call self.old.core.regs) self.old.core.regs self.old.core.mem) (S.left input.old) (S.left input.new) taken
+            × (self.new ≡ record self.old { core = called self.old.core taken })) }
+        ensures count { OnOk result (self.new.core.csrs.retired ≤ self.old.core.csrs.retired + 1) }
+        ensures length { self.new.core.csrs.vlen ≡ self.old.core.csrs.vlen }
+        ensures gained_out { OnOk result (Appends (O.held out.old) (O.held out.new) (bytes_out merged (first self.old.core.regs) (put_by (named_call self.old.core.regs) self.old.core.regs self.old.core.mem))) }
+        ensures gained_err { OnOk result (Appends (E.held err.old) (E.held err.new) (bytes_err merged (first self.old.core.regs) (put_by (named_call self.old.core.regs) self.old.core.regs self.old.core.mem))) }
+        ensures stays { OnErr result (self.new ≡ record self.old { core = record self.old.core { mem = self.new.core.mem } }) }
+        ensures front_out { OnErr result (PutsFront (O.held out.old) (O.held out.new) (bytes_out merged (first self.old.core.regs) (put_by (named_call self.old.core.regs) self.old.core.regs self.old.core.mem))) }
+        ensures front_err { OnErr result (PutsFront (E.held err.old) (E.held err.new) (bytes_err merged (first self.old.core.regs) (put_by (named_call self.old.core.regs) self.old.core.regs self.old.core.mem))) }
+        ensures read_fault { IsErrOf result DeviceFault.ReadFault → FailsReading self.old.core.regs self.old.core.mem self.new.core.mem (S.left input.old) (S.left input.new) (S.faults input.old) (S.faults input.new) }
+        ensures write_fault { IsErrOf result DeviceFault.WriteFault → FailsWriting merged self.old.core.regs self.old.core.mem self.new.core.mem (O.faults out.old) (O.faults out.new) (E.faults err.old) (E.faults err.new) }
+        ensures later_input { S.faults input.old ≤ S.faults input.new }
+        ensures later_out { O.faults out.old ≤ O.faults out.new }
+        ensures later_err { E.faults err.old ≤ E.faults err.new }
+    {
+        match call(&mut self.regs, &mut self.mem, input, out, err, merged) {
+            Ok(EnvFlow::Back) => {
+                self.retire_to(self.behind());
+                Ok(())
+            }
+            Ok(EnvFlow::Exit(code)) => {
+                self.retire_to(self.behind());
+                self.mode = Mode::Exited(code);
+                Ok(())
+            }
+            Err(EnvFault::ReadFault) => Err(DeviceFault::ReadFault),
+            Err(EnvFault::WriteFault) => Err(DeviceFault::WriteFault),
+        }
+    }
+
+    // Carries out a scalar instruction.
+    fn perform<S: Source, O: Sink, E: Sink>(
+        &mut self,
+        i: &Instr,
+        input: &mut S,
+        out: &mut O,
+        err: &mut E,
+        merged: bool,
+    ) -> Result<(), DeviceFault>
+        requires spelled { IsSpelled i.now }
+        requires there { next self.old.core ≡ Perform (Scalar i.now) }
+        requires empty { self.old.last ≡ [] }
+        requires count { self.old.core.csrs.retired < 2 ^ 63 }
+        ensures carries { OnOk result ((taken : List ℕ) × Carries merged self.old self.new taken (S.left input.old) (S.left input.new) (O.held out.old) (O.held out.new) (E.held err.old) (E.held err.new)) }
+        ensures count { OnOk result (self.new.core.csrs.retired ≤ self.old.core.csrs.retired + 1) }
+        ensures length { self.new.core.csrs.vlen ≡ self.old.core.csrs.vlen }
+        ensures stays { OnErr result (self.new ≡ record self.old { core = record self.old.core { mem = self.new.core.mem } }) }
+        ensures fails { OnErr result (Fails merged self.old (O.held out.old) (O.held out.new) (E.held err.old) (E.held err.new)) }
+        ensures read_fault { IsErrOf result DeviceFault.ReadFault → FailsReading self.old.core.regs self.old.core.mem self.new.core.mem (S.left input.old) (S.left input.new) (S.faults input.old) (S.faults input.new) }
+        ensures write_fault { IsErrOf result DeviceFault.WriteFault → FailsWriting merged self.old.core.regs self.old.core.mem self.new.core.mem (O.faults out.old) (O.faults out.new) (E.faults err.old) (E.faults err.new) }
+        ensures later_input { S.faults input.old ≤ S.faults input.new }
+        ensures later_out { O.faults out.old ≤ O.faults out.new }
+        ensures later_err { E.faults err.old ≤ E.faults err.new }
+    {
+        match self.execute(i) {
+            Flow::Next => {
+                self.retire_to(self.behind());
+                Ok(())
+            }
+            Flow::Jump(target) => {
+                self.retire_to(target);
+                Ok(())
+            }
+            Flow::Trap(trap) => {
+                self.stop(Mode::Trapped(trap));
+                Ok(())
+            }
+            Flow::Call => self.call(input, out, err, merged),
+        }
+    }
+
+    // Carries out the instruction at pc.
+    fn carry_out<S: Source, O: Sink, E: Sink>(
+        &mut self,
+        input: &mut S,
+        out: &mut O,
+        err: &mut E,
+        merged: bool,
+    ) -> Result<(), DeviceFault>
+        requires empty { self.old.last ≡ [] }
+        requires count { self.old.core.csrs.retired < 2 ^ 63 }
+        ensures carries { OnOk result ((taken : List ℕ) × Carries merged self.old self.new taken (S.left input.old) (S.left input.new) (O.held out.old) (O.held out.new) (E.held err.old) (E.held err.new)) }
+        ensures count { OnOk result (self.new.core.csrs.retired ≤ self.old.core.csrs.retired + 1) }
+        ensures length { self.new.core.csrs.vlen ≡ self.old.core.csrs.vlen }
+        ensures stays { OnErr result (self.new ≡ record self.old { core = record self.old.core { mem = self.new.core.mem } }) }
+        ensures fails { OnErr result (Fails merged self.old (O.held out.old) (O.held out.new) (E.held err.old) (E.held err.new)) }
+        ensures read_fault { IsErrOf result DeviceFault.ReadFault → FailsReading self.old.core.regs self.old.core.mem self.new.core.mem (S.left input.old) (S.left input.new) (S.faults input.old) (S.faults input.new) }
+        ensures write_fault { IsErrOf result DeviceFault.WriteFault → FailsWriting merged self.old.core.regs self.old.core.mem self.new.core.mem (O.faults out.old) (O.faults out.new) (E.faults err.old) (E.faults err.new) }
+        ensures later_input { S.faults input.old ≤ S.faults input.new }
+        ensures later_out { O.faults out.old ≤ O.faults out.new }
+        ensures later_err { E.faults err.old ≤ E.faults err.new }
+    {
+        match self.next() {
+            Next::Stop(mode) => {
+                self.stop(mode);
+                Ok(())
+            }
+            Next::Perform(Meaning::Scalar(i)) => self.perform(&i, input, out, err, merged),
+            Next::Perform(Meaning::Vector(i)) => {
+                self.perform_vector(&i);
+                Ok(())
+            }
+        }
+    }
+
+    /// One step. `merged` tells where the guest's bytes go: the output to `out` and the error output to `err`, or both
+    /// to `err` in their order. The answer tells the mode. After a device fault `live` is false, nothing retired and
+    /// all else but the memory and the last program is as before: the bytes that a read took stand in memory, or the
+    /// sink has gained a front of the bytes of the call.
+    pub fn step<S: Source, O: Sink, E: Sink>(
+        &mut self,
+        input: &mut S,
+        out: &mut O,
+        err: &mut E,
+        merged: bool,
+    ) -> Result<Step, DeviceFault>
+        requires live { self.old.live ≡ true }
+        requires running { self.old.core.mode ≡ Mode.Running }
+        requires count { self.old.core.csrs.retired < 2 ^ 63 }
+
+        // What the machine becomes, whatever the devices tell.
+        ensures carries { OnOk result ((taken : List ℕ) × Carries merged self.old self.new taken (S.left input.old) (S.left input.new) (O.held out.old) (O.held out.new) (E.held err.old) (E.held err.new)) }
+        ensures live { OnOk result (self.new.live ≡ true) }
+        ensures count { OnOk result (self.new.core.csrs.retired ≤ self.old.core.csrs.retired + 1) }
+        ensures length { self.new.core.csrs.vlen ≡ self.old.core.csrs.vlen }
+        ensures answer { IfOk result (λ answer. answer ≡ answer_of self.new.core.mode) }
+
+        // Agnostic elements are as the standard permits, whatever the policy is.
+        ensures allowed { OnOk result ((taken : List ℕ) × Takes (asked self.old.core) (S.left input.old) (S.left input.new) taken × Allowed self.old.core taken self.new.core) }
+
+        // The moment after is that of one step from the moment before.
+        ensures goes { OnOk result (GoesBy moment_after merged self.old self.new (S.left input.old) (S.left input.new) (O.held out.old) (O.held out.new) (E.held err.old) (E.held err.new)) }
+
+        // What stands after a device fault, and its cause.
+        ensures stays { OnErr result (self.new ≡ record self.old { core = record self.old.core { mem = self.new.core.mem }; last = []; live = false }) }
+        ensures calls { OnErr result (CallsAt self.old.core) }
+        ensures fronts { OnErr result (FaultsIn moment_after merged self.old (S.left input.old) (O.held out.old) (O.held out.new) (E.held err.old) (E.held err.new)) }
+        ensures read_fault { IsErrOf result DeviceFault.ReadFault → FailsReading self.old.core.regs self.old.core.mem self.new.core.mem (S.left input.old) (S.left input.new) (S.faults input.old) (S.faults input.new) }
+        ensures write_fault { IsErrOf result DeviceFault.WriteFault → FailsWriting merged self.old.core.regs self.old.core.mem self.new.core.mem (O.faults out.old) (O.faults out.new) (E.faults err.old) (E.faults err.new) }
+        ensures later_input { S.faults input.old ≤ S.faults input.new }
+        ensures later_out { O.faults out.old ≤ O.faults out.new }
+        ensures later_err { E.faults err.old ≤ E.faults err.new }
+    {
+        self.forget();
+        match self.carry_out(input, out, err, merged) {
+            Ok(()) => Ok(self.answer()),
+            Err(fault) => {
+                self.live = false;
+                Err(fault)
+            }
+        }
+    }
+
+    /// Up to n steps, as long as the machine runs: `Ran` where n instructions retired and it still runs. After a device
+    /// fault the machine stands at the call that failed.
+    pub fn run<S: Source, O: Sink, E: Sink>(
+        &mut self,
+        n: u64,
+        input: &mut S,
+        out: &mut O,
+        err: &mut E,
+        merged: bool,
+    ) -> Result<Step, DeviceFault>
+        requires live { self.old.live ≡ true }
+        requires running { self.old.core.mode ≡ Mode.Running }
+        requires budget { n ≤ 1000000000000 }
+        requires count { self.old.core.csrs.retired + n ≤ 2 ^ 63 }
+        ensures goes { OnOk result (GoesBy (λ m. moments m n) merged self.old self.new (S.left input.old) (S.left input.new) (O.held out.old) (O.held out.new) (E.held err.old) (E.held err.new)) }
+        ensures live { OnOk result (self.new.live ≡ true) }
+        ensures count { OnOk result (self.new.core.csrs.retired ≤ self.old.core.csrs.retired + n) }
+        ensures length { self.new.core.csrs.vlen ≡ self.old.core.csrs.vlen }
+        ensures answer { IfOk result (λ answer. answer ≡ answer_of self.new.core.mode) }
+
+        // What stands after a device fault, and its cause.
+        ensures fronts { OnErr result (FaultsIn (λ m. moments m n) merged self.old (S.left input.old) (O.held out.old) (O.held out.new) (E.held err.old) (E.held err.new)) }
+        ensures read_cause { IsErrOf result DeviceFault.ReadFault → Rose (S.faults input.old) (S.faults input.new) }
+        ensures reads { IsErrOf result DeviceFault.ReadFault → ReadsIn n merged self.old (S.left input.old) (O.held out.old) (E.held err.old) }
+        ensures write_cause { IsErrOf result DeviceFault.WriteFault → IsFaultOf merged (first self.new.core.regs) (O.faults out.old) (O.faults out.new) (E.faults err.old) (E.faults err.new) }
+        ensures write_at { IsErrOf result DeviceFault.WriteFault → CallsAt self.new.core × IsWriting self.new.core.regs self.new.core.mem }
+        ensures later_input { S.faults input.old ≤ S.faults input.new }
+        ensures later_out { O.faults out.old ≤ O.faults out.new }
+        ensures later_err { E.faults err.old ≤ E.faults err.new }
+    {
+        for i in 0..n {
+            let answer = self.step(input, out, err, merged)?;
+            match answer {
+                Step::Ran => {}
+                Step::Exited(_) | Step::Trapped(_) | Step::Unbuilt => return Ok(answer),
+            }
+        }
+        Ok(Step::Ran)
+    }
+}

@@ -1,0 +1,140 @@
+// Vector instructions: configurations, and programs of micro-operations.
+ghost use Rattle.std.specs.Prelude.{◌≡◌, ◌+◌, ◌<◌, ◌≤◌, ◌^◌, ℕ, List, [], Some, true, length, IsTrue, Bool, Option};
+ghost use Rattle.cam_chain.specs.ChainValue.{slices_of};
+ghost use Rattle.micro_ir.specs.Replay.{replay};
+ghost use Rattle.rvv_meaning.specs.declared.Meaning.TheVariants.{Vector};
+ghost use Rattle.rvv_meaning.specs.declared.Next.TheVariants.{Perform};
+ghost use Rattle.rvv_decode.specs.Ranges.{IsInRange};
+ghost use Rattle.vtype_cfg.specs.Settings.{is_valid};
+ghost use Rattle.rvv_meaning.specs.States.{next, cfg_at, configured, elementwise};
+ghost use Rattle.rvv_meaning.specs.Vectors.{length_asked, length_of_register, setting_asked, scalar_operand, on_elements_is_built};
+ghost use Rattle.vec_exec.specs.Programs.{prog};
+ghost use Rattle.machine.specs.Fields.{VectorFits};
+ghost use Rattle.machine.specs.Moments.{control_by};
+ghost use Rattle.machine.specs.Carrying.{Carries};
+
+use crate::parts::{CLEARED, Machine, WORD_BYTES};
+use micro_ir::replay;
+use rvv_decode::{ConfigOp, Form, VInstr, VOp};
+use vec_exec::plan;
+use vtype_cfg::{Avl, Cfg, Vtype, set_vl};
+
+impl Machine {
+    // The configuration of the vector unit.
+    pub(crate) fn cfg(&self) -> Cfg
+        ensures is { result ≡ cfg_at self.now.core }
+        ensures valid { IsTrue (is_valid result) }
+    {
+        Cfg {
+            vtype: Vtype::from_bits(self.csrs.vtype),
+            vl: self.csrs.vl,
+            vstart: self.csrs.vstart,
+            vxrm: self.csrs.vxrm,
+            vlen: self.csrs.vlen,
+            policy: self.policy,
+        }
+    }
+
+    // How many elements a configuration asks for, where a register may say so.
+    fn length_of_register(&self, i: &VInstr) -> Avl
+        requires { i.now.vs1 < 32 }
+        ensures { result ≡ length_of_register i.now self.now.core.regs }
+    {
+        if i.vs1 != 0 {
+            Avl::Given(self.regs.get(i.vs1))
+        } else if i.vd != 0 {
+            Avl::Max
+        } else {
+            Avl::Keep
+        }
+    }
+
+    // How many elements a configuration asks for.
+    fn length_asked(&self, op: ConfigOp, i: &VInstr) -> Avl
+        requires { i.now.vs1 < 32 }
+        ensures { result ≡ length_asked op i.now self.now.core.regs }
+    {
+        match op {
+            ConfigOp::Vsetivli => Avl::Given(u32::from(i.vs1)),
+            ConfigOp::Vsetvli | ConfigOp::Vsetvl => self.length_of_register(i),
+        }
+    }
+
+    // The bits of the vector type that a configuration asks for.
+    fn setting_asked(&self, op: ConfigOp, i: &VInstr) -> u32
+        requires { i.now.vs2 < 32 }
+        ensures { result ≡ setting_asked op i.now self.now.core.regs }
+    {
+        match op {
+            ConfigOp::Vsetvli | ConfigOp::Vsetivli => u32::from(i.zimm),
+            ConfigOp::Vsetvl => self.regs.get(i.vs2),
+        }
+    }
+
+    // A configuration of the vector unit.
+    pub(crate) fn configure(&mut self, op: ConfigOp, i: &VInstr)
+        requires fields { IsInRange i.now }
+        requires count { self.old.core.csrs.retired < 2 ^ 63 }
+        ensures { self.new ≡ record self.old { core = configured op i.now self.old.core } }
+    {
+        let asked = self.length_asked(op, i);
+        let setting = self.setting_asked(op, i);
+        let old = Vtype::from_bits(self.csrs.vtype);
+        let (vtype, vl) = set_vl(&old, self.csrs.vl, asked, setting, self.csrs.vlen);
+        self.csrs.vstart = 0;
+        self.csrs.vl = vl;
+        self.csrs.vtype = vtype.bits();
+        self.regs.set(i.vd, vl);
+        self.retire_to(self.behind());
+    }
+
+    // The scalar that an instruction takes.
+    fn scalar_of(&self, i: &VInstr) -> u32
+        requires { i.now.vs1 < 32 }
+        ensures { result ≡ scalar_operand i.now self.now.core.regs }
+    {
+        match i.form {
+            Form::X => self.regs.get(i.vs1),
+            Form::V | Form::I => 0,
+        }
+    }
+
+    // An instruction on elements, which is planned into the empty buffer and replayed on the slices.
+    fn run_program(&mut self, i: &VInstr)
+        requires fits { VectorFits self.old.core i.now }
+        requires elements { on_elements_is_built i.now.op ≡ true }
+        requires empty { self.old.last ≡ [] }
+        requires count { self.old.core.csrs.retired < 2 ^ 63 }
+        ensures core { self.new.core ≡ elementwise i.now self.old.core }
+        ensures slices { slices_of self.new.chain ≡ replay (prog i.now (cfg_at self.old.core) (scalar_operand i.now self.old.core.regs)) (record (slices_of self.old.chain) { num = 0 }) }
+        ensures last { self.new.last ≡ prog i.now (cfg_at self.old.core) (scalar_operand i.now self.old.core.regs) }
+        ensures control { self.new.control ≡ control_by (Some (prog i.now (cfg_at self.old.core) (scalar_operand i.now self.old.core.regs))) (slices_of self.old.chain) self.old.control }
+        ensures live { self.new.live ≡ self.old.live }
+    {
+        let scalar = self.scalar_of(i);
+        let cfg = self.cfg();
+        plan(i, &cfg, scalar, &mut self.buf);
+        let first = self.buf.ops().len() as u32;
+        self.control = CLEARED;
+        replay(&mut self.chain, &mut self.control, &self.buf, first);
+        self.csrs.vstart = 0;
+        self.pc = self.pc.wrapping_add(WORD_BYTES);
+        self.csrs.retired += 1;
+    }
+
+    // Carries out the vector instruction at pc.
+    pub(crate) fn perform_vector(&mut self, i: &VInstr)
+        requires fits { VectorFits self.old.core i.now }
+        requires there { next self.old.core ≡ Perform (Vector i.now) }
+        requires empty { self.old.last ≡ [] }
+        requires count { self.old.core.csrs.retired < 2 ^ 63 }
+        ensures carries { (merged : Bool) (left out err : Option (List ℕ)) → Carries merged self.old self.new [] left left out out err err }
+        ensures count { self.new.core.csrs.retired ≤ self.old.core.csrs.retired + 1 }
+        ensures length { self.new.core.csrs.vlen ≡ self.old.core.csrs.vlen }
+    {
+        match i.op {
+            VOp::Config(op) => self.configure(op, i),
+            VOp::Opi(_) | VOp::Opm(_) | VOp::Memory(_) => self.run_program(i),
+        }
+    }
+}

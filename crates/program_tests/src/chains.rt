@@ -1,0 +1,84 @@
+//! Chains made of words, and lists that are carried out on them.
+use crate::ranges::{ROWS, are_in_range};
+use cam_chain::{Chain, Counts};
+use micro_ir::{Control, MicroBuf, replay};
+use std::alloc::Global;
+use std::test::Fail;
+
+// The most columns of a chain.
+const MOST_COLUMNS: u32 = 2048;
+
+// Control numbers, which no list changes.
+const CONTROL: Control = Control { num: 7, clip: true };
+
+/// Numbers of searches, updates and passes.
+pub(crate) type Cost = (u128, u128, u128);
+
+/// A row, a column, and the word that stands there.
+#[derive(Clone, Copy)]
+pub(crate) struct Word(pub(crate) u8, pub(crate) u32, pub(crate) u32);
+
+/// A chain before a list and after it: the number of its columns, and words that it holds.
+#[derive(Clone, Copy)]
+pub(crate) struct Trial {
+    pub(crate) columns: u32,
+    pub(crate) before: &'static [Word],
+    pub(crate) after: &'static [Word],
+}
+
+/// A chain that holds the words.
+fn chain_of(alloc: Global, columns: u32, words: &[Word]) -> Result<Chain, Fail> {
+    if columns == 0 || columns > MOST_COLUMNS {
+        return Err("a number of columns".into());
+    }
+    let mut chain = Chain::new(alloc, columns)?;
+    for Word(row, column, word) in words {
+        if *row >= ROWS || *column >= chain.columns() {
+            return Err("a place of the chain".into());
+        }
+        chain.write_word(*row, *column, *word);
+    }
+    Ok(chain)
+}
+
+/// Whether the chain holds the words.
+fn holds(chain: &Chain, words: &[Word]) -> bool {
+    for Word(row, column, word) in words {
+        if *row >= ROWS || *column >= chain.columns() || chain.read_word(*row, *column) != *word {
+            return false;
+        }
+    }
+    true
+}
+
+/// Carries out the first operations of a list on a chain that nothing was counted on, and tells whether it could and no
+/// control number changed.
+fn is_carried_out(chain: &mut Chain, buf: &MicroBuf, first: usize) -> bool {
+    let counts = chain.counts();
+    let counted = counts.searches > 0 || counts.updates > 0 || counts.passes > 0;
+    let ops = buf.ops();
+    if counted || first > ops.len() || !are_in_range(chain.columns(), &ops[..first]) {
+        return false;
+    }
+    let mut control = CONTROL;
+    replay(chain, &mut control, buf, first as u32);
+    control == CONTROL
+}
+
+/// What the first operations of a list cost, in searches, updates and passes, or `None` where they leave other words than
+/// those of the trial.
+pub(crate) fn cost_of(
+    alloc: Global,
+    trial: &Trial,
+    buf: &MicroBuf,
+    first: usize,
+) -> Result<Option<Cost>, Fail> {
+    let mut chain = chain_of(alloc, trial.columns, trial.before)?;
+    let ends = is_carried_out(&mut chain, buf, first) && holds(&chain, trial.after);
+    Ok(ends.then_some(cost_in(chain.counts())))
+}
+
+/// The searches, updates and passes of counts.
+pub(crate) fn cost_in(counts: Counts) -> Cost {
+    (counts.searches, counts.updates, counts.passes)
+}

@@ -1,0 +1,21 @@
+//! Tests of lists of micro-operations, of what generators and plans append to them, and of runs of the machine, all worked
+//! out by hand. They use public calls alone, so they stand in a crate of their own: a change of a test does not prove what
+//! it tests again.
+#![tactic(auto)]
+
+#[cfg(test)]
+mod buffers;
+#[cfg(test)]
+mod chains;
+#[cfg(test)]
+mod kinds;
+#[cfg(test)]
+mod lists;
+#[cfg(test)]
+mod pieces;
+#[cfg(test)]
+mod plans;
+#[cfg(test)]
+mod ranges;
+#[cfg(test)]
+mod runs;

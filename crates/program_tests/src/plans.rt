@@ -1,0 +1,194 @@
+//! Vector words that are planned and carried out on registers of 64 bits.
+use crate::chains::{Cost, Trial, Word, cost_in, cost_of};
+use micro_ir::MicroBuf;
+use rvv_decode::{OpiOp, VOp, decode_v};
+use std::alloc::Global;
+use std::test::Fail;
+use vec_exec::{engine, plan};
+use vtype_cfg::{Cfg, Policy, Vtype, legal};
+
+// The length of a register, and the columns that hold it.
+const VLEN: u32 = 64;
+
+const COLUMNS: u32 = 2;
+
+// The most micro-operations of one instruction.
+const ROOM: u32 = 262_144;
+
+// The vector types of elements of 8 bits in one register, and of 32 bits in eight; and the flag of agnostic masked elements.
+const E8_M1: u32 = 0;
+
+const E32_M8: u32 = 0x13;
+
+const MASK_AGNOSTIC: u32 = 1 << 7;
+
+// vadd.vv v4, v2, v3; vadd.vv v8, v16, v24; and vmseq.vv v0, v2, v3, v0.t.
+const ADD: u32 = 0x0221_8257;
+
+const ADD_OF_EIGHT: u32 = 0x030c_0457;
+
+const EQUAL_UNDER_MASK: u32 = 0x6021_8057;
+
+// Elements 0 to 3 are active, and all are equal but element 1.
+const UNDER_MASK: &[Word] = &[
+    Word(0, 0, 0x0000_000f),
+    Word(2, 0, 0x0403_0201),
+    Word(3, 0, 0x0403_0701),
+];
+
+// A word, the setting that it is planned under, words of the chain before and after it, and its cost.
+#[derive(Clone, Copy)]
+struct Row {
+    word: u32,
+    vtype: u32,
+    vl: u32,
+    policy: Policy,
+    before: &'static [Word],
+    after: &'static [Word],
+    cost: Cost,
+}
+
+static ROWS: [Row; 4] = [
+    // no carry passes into the next element
+    Row {
+        word: ADD,
+        vtype: E8_M1,
+        vl: 8,
+        policy: Policy::Keep,
+        before: &[Word(2, 0, 0x807f_00ff), Word(3, 0, 0x8001_0001)],
+        after: &[Word(4, 0, 0x0080_0000)],
+        cost: (64, 19, 7),
+    },
+    // a sum of eight registers costs eight times that of one, of 256, 67 and 31
+    Row {
+        word: ADD_OF_EIGHT,
+        vtype: E32_M8,
+        vl: 16,
+        policy: Policy::Keep,
+        before: &[
+            Word(16, 0, 0x7fff_ffff),
+            Word(24, 0, 1),
+            Word(23, 1, 0xffff_ffff),
+            Word(31, 1, 2),
+        ],
+        after: &[Word(8, 0, 0x8000_0000), Word(15, 1, 1)],
+        cost: (2048, 536, 248),
+    },
+    // a comparison may write the mask that it is under
+    Row {
+        word: EQUAL_UNDER_MASK,
+        vtype: E8_M1,
+        vl: 8,
+        policy: Policy::Keep,
+        before: UNDER_MASK,
+        after: &[Word(0, 0, 0x0000_000d)],
+        cost: (46, 10, 7),
+    },
+    Row {
+        word: EQUAL_UNDER_MASK,
+        vtype: E8_M1 | MASK_AGNOSTIC,
+        vl: 8,
+        policy: Policy::Ones,
+        before: UNDER_MASK,
+        after: &[Word(0, 0, 0xffff_fffd)],
+        cost: (47, 11, 7),
+    },
+];
+
+// The program of the row's word.
+#[tactic(auto, unfolding(vtype_cfg::specs::Settings::is_valid, vtype_cfg::specs::Settings::is_legal_vlen, vtype_cfg::specs::Settings::legal_vlens, rvv_meaning::specs::Arithmetic::operation_for))]
+fn program_of(alloc: Global, row: &Row) -> Result<MicroBuf, Fail> {
+    let vtype = Vtype::from_bits(row.vtype);
+    if row.vl > vtype.vlmax(VLEN) {
+        return Err("a length of this setting".into());
+    }
+    let cfg = Cfg {
+        vtype,
+        vl: row.vl,
+        vstart: 0,
+        vxrm: 0,
+        vlen: VLEN,
+        policy: row.policy,
+    };
+    let i = decode_v(row.word).ok_or("a vector word")?;
+    if !matches!(i.op, VOp::Opi(OpiOp::Vadd | OpiOp::Vmseq)) {
+        return Err("a sum or a comparison".into());
+    }
+    if !legal(&i, &cfg.vtype, cfg.vstart, cfg.vlen) {
+        return Err("a legal instruction".into());
+    }
+    let mut buf = MicroBuf::new(alloc, ROOM)?;
+    plan(&i, &cfg, 0, &mut buf);
+    Ok(buf)
+}
+
+// Whether the program of the row's word leaves what the row says, and costs what it says.
+fn is_carried_out(alloc: Global, row: &Row) -> Result<bool, Fail> {
+    let buf = program_of(alloc, row)?;
+    let trial = Trial {
+        columns: COLUMNS,
+        before: row.before,
+        after: row.after,
+    };
+    let cost = cost_of(alloc, &trial, &buf, buf.ops().len())?;
+    Ok(cost == Some(row.cost) && cost_in(buf.tally()) == row.cost)
+}
+
+#[test]
+fn programs_leave_these_words(rt: HostRuntime) -> Result<(), Fail> {
+    for (i, row) in ROWS.iter().enumerate() {
+        assert!(rt; is_carried_out(rt.alloc(), row)?, "row {i}");
+    }
+    Ok(())
+}
+
+// A word, and whether it is carried out by a program.
+#[derive(Clone, Copy)]
+struct Asked {
+    word: u32,
+    engine: bool,
+}
+
+// vadd.vv, vrgather.vx, vrgather.vv, vcompress.vm, viota.m, vle32.v and vsetvli.
+static ASKED: [Asked; 7] = [
+    Asked {
+        word: ADD,
+        engine: true,
+    },
+    Asked {
+        word: 0x3221_c257,
+        engine: true,
+    },
+    Asked {
+        word: 0x3221_8257,
+        engine: false,
+    },
+    Asked {
+        word: 0x5e21_a257,
+        engine: false,
+    },
+    Asked {
+        word: 0x5228_2257,
+        engine: false,
+    },
+    Asked {
+        word: 0x0205_6207,
+        engine: false,
+    },
+    Asked {
+        word: 0x0005_72d7,
+        engine: false,
+    },
+];
+
+// Whether the word is a vector word, and is carried out as the row says.
+fn is_answered(row: &Asked) -> bool {
+    decode_v(row.word).is_some_and(|i| engine(&i) == row.engine)
+}
+
+#[test]
+fn these_are_carried_out_by_programs(rt: HostRuntime) {
+    for (i, row) in ASKED.iter().enumerate() {
+        assert!(rt; is_answered(row), "row {i}");
+    }
+}

@@ -1,0 +1,11 @@
+use Rattle.std.proofs.Common.{◌≤◌, ◌-◌}
+use Rattle.report_texts.specs.StateTexts.{vector_line, vector_lines}
+use Rattle.report_texts.proofs.PutLemmas.{IsPut, pieces}
+use Rattle.report_texts.proofs.state.put_vectors.Given as goal
+
+-- the lines before the register were put
+abbrev pub invariant-loop-r : goal.invariant-loop-r
+invariant-loop-r g l = record {
+  put : IsPut (vector_lines l.machine.core) (pieces (vector_line l.machine.core) l.r (32 - l.r)) (g.E.Sink.held l.initial.err) (g.E.Sink.held l.err);
+  later : g.E.Sink.faults l.initial.err ≤ g.E.Sink.faults l.err;
+}

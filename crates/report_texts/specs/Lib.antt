@@ -1,0 +1,4 @@
+-- The texts about answers, states and layouts.
+pub mod Lines
+pub mod Layouts
+pub mod StateTexts

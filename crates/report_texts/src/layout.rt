@@ -1,0 +1,228 @@
+// The text about the layout of an image: its entry, and its pages.
+ghost use Rattle.std.specs.Prelude.{◌≡◌, ◌+◌, ◌-◌, ◌/◌, ◌<◌, ◌≤◌, ◌++◌, false, if◌then◌else◌, map, OnOk, OnErr};
+ghost use Rattle.std.specs.Option.{option_map};
+ghost use Rattle.std.specs.Io.KnownBytes.{Appends};
+ghost use Rattle.arrayvec.specs.ArrayString.{array_string_len};
+ghost use Rattle.cape_io.specs.Devices.{PutsFront, Rose};
+ghost use Rattle.elf_load.specs.Layout.{span_of, is_mapped, meets, page_perms, page_size, page_numbers};
+ghost use Rattle.report_texts.specs.Layouts.{perms_of, same_perms, letters, entry_line, map_line, line_of_run, map_lines, layout_text, IsSteady, IsRun};
+
+use crate::text::{Line, push_hex};
+use bitflags::Flags;
+use cape_io::{Failed, Sink};
+use guest_mem::{Perms, Region};
+
+// The bytes of a page.
+const PAGE_SIZE: u32 = 4096;
+
+// How many pages there are.
+const PAGES: u32 = 1 << 20;
+
+// The first page of a region.
+fn first_page(region: &Region) -> u32
+    ensures page { result ≡ region.now.start / page_size }
+    ensures bound { result < page_numbers }
+{
+    region.start / PAGE_SIZE
+}
+
+// The page behind the last page of a region.
+fn page_behind(region: &Region) -> u32
+    ensures { result ≡ (region.now.start + region.now.len + (page_size - 1)) / page_size }
+{
+    let end = u64::from(region.start) + u64::from(region.len);
+    end.div_ceil(u64::from(PAGE_SIZE)) as u32
+}
+
+// Whether a region meets a page.
+fn meets(region: &Region, page: u32) -> bool
+    ensures { result ≡ meets page (span_of region.now) }
+{
+    region.len > 0 && first_page(region) <= page && page < page_behind(region)
+}
+
+// Whether a page is mapped.
+fn is_mapped(regions: &[Region], page: u32) -> bool
+    ensures { result ≡ is_mapped (map span_of regions.now) page }
+{
+    regions.iter().any(|region| meets(region, page))
+}
+
+// The permissions that a page gets of the regions that meet it: their union.
+fn union_at(regions: &[Region], page: u32) -> Perms
+    ensures { result.0 ≡ page_perms (map span_of regions.now) page }
+{
+    let mut perms = Perms::from_bits_retain(0);
+    for region in regions {
+        if meets(region, page) {
+            perms.insert(region.perms);
+        }
+    }
+    perms
+}
+
+// The permissions of a page, where it is mapped.
+fn perms_at(regions: &[Region], page: u32) -> Option<Perms>
+    ensures { option_map (λ p. p.0) result ≡ perms_of (map span_of regions.now) page }
+{
+    if is_mapped(regions, page) {
+        Some(union_at(regions, page))
+    } else {
+        None
+    }
+}
+
+// The next page at which a region begins or is over, or the number of pages where neither comes any more.
+fn edge_after(region: &Region, page: u32) -> u32
+    requires { page < page_numbers }
+    ensures later { page < result }
+    ensures bound { result ≤ page_numbers }
+    ensures steady { IsSteady page result (span_of region.now) }
+{
+    let first = first_page(region);
+    let behind = page_behind(region);
+    if page < first {
+        first
+    } else if page < behind {
+        behind.min(PAGES)
+    } else {
+        PAGES
+    }
+}
+
+// The next page at which some region begins or is over, or the number of pages.
+fn next_edge(regions: &[Region], page: u32) -> u32
+    requires { page < page_numbers }
+    ensures later { page < result }
+    ensures bound { result ≤ page_numbers }
+    ensures run { IsRun (map span_of regions.now) page result }
+{
+    let mut edge = PAGES;
+    for region in regions {
+        edge = edge.min(edge_after(region, page));
+    }
+    edge
+}
+
+// The page behind the longest run of pages from the first on with the permissions of the first.
+fn run_end(regions: &[Region], first: u32) -> u32
+    requires { first < page_numbers }
+    ensures later { first < result }
+    ensures bound { result ≤ page_numbers }
+    ensures run { IsRun (map span_of regions.now) first result }
+    ensures longest { result < page_numbers →
+        same_perms (perms_of (map span_of regions.now) result) (perms_of (map span_of regions.now) first) ≡ false }
+{
+    let perms = perms_at(regions, first);
+    let mut page = next_edge(regions, first);
+    while page < PAGES && perms_at(regions, page) == perms {
+        page = next_edge(regions, page);
+    }
+    page
+}
+
+// The letter of a permission that is there, and a dash for one that is not.
+fn glyph(is_there: bool, letter: char) -> char
+    requires { letter < 128 }
+    ensures code { result ≡ (if is_there then letter else 45) }
+    ensures ascii { result < 128 }
+{
+    if is_there { letter } else { '-' }
+}
+
+// Appends the letters of permissions.
+fn push_letters(line: &mut Line, perms: Perms)
+    requires { array_string_len line.old + 3 ≤ 240 }
+    ensures text { line.new.bytes ≡ line.old.bytes ++ letters perms.0 }
+    ensures room { array_string_len line.new ≡ array_string_len line.old + 3 }
+{
+    line.push(glyph(perms.contains(Perms::READ), 'r'));
+    line.push(glyph(perms.contains(Perms::WRITE), 'w'));
+    line.push(glyph(perms.contains(Perms::EXECUTE), 'x'));
+}
+
+// The line about the pages from the first on and before another.
+#[tactic(auto, using(crate::proofs::LayoutLemmas::hex_word_wraps))]
+fn map_line(first: u32, behind: u32, perms: Perms) -> Line
+    requires start { first < page_numbers }
+    requires end { behind ≤ page_numbers }
+    ensures { result.bytes ≡ map_line first behind perms.0 }
+{
+    let mut line = Line::new();
+    line.push_str("map ");
+    push_hex(&mut line, first * PAGE_SIZE);
+    line.push_str(" ");
+    // The end of the last page, 2^32, has the digits of 0.
+    push_hex(&mut line, behind.wrapping_mul(PAGE_SIZE));
+    line.push_str(" ");
+    push_letters(&mut line, perms);
+    line.push_str("\n");
+    line
+}
+
+// The line about the entry.
+fn entry_line(entry: u32) -> Line
+    ensures { result.bytes ≡ entry_line entry }
+{
+    let mut line = Line::new();
+    line.push_str("ok entry ");
+    push_hex(&mut line, entry);
+    line.push_str("\n");
+    line
+}
+
+// Puts the line about the entry.
+fn put_entry<O: Sink>(entry: u32, out: &mut O) -> Result<(), Failed>
+    ensures whole { OnOk result (Appends (O.held out.old) (O.held out.new) (entry_line entry)) }
+    ensures front { OnErr result (PutsFront (O.held out.old) (O.held out.new) (entry_line entry)) }
+    ensures cause { OnErr result (Rose (O.faults out.old) (O.faults out.new)) }
+    ensures later { O.faults out.old ≤ O.faults out.new }
+{
+    out.put(entry_line(entry).as_str().as_bytes())
+}
+
+// Puts the line of a run of pages, if they are mapped.
+fn put_run<O: Sink>(regions: &[Region], first: u32, behind: u32, out: &mut O) -> Result<(), Failed>
+    requires start { first < page_numbers }
+    requires end { behind ≤ page_numbers }
+    ensures whole { OnOk result (Appends (O.held out.old) (O.held out.new)
+        (line_of_run (perms_of (map span_of regions.now) first) first behind)) }
+    ensures front { OnErr result (PutsFront (O.held out.old) (O.held out.new)
+        (line_of_run (perms_of (map span_of regions.now) first) first behind)) }
+    ensures cause { OnErr result (Rose (O.faults out.old) (O.faults out.new)) }
+    ensures later { O.faults out.old ≤ O.faults out.new }
+{
+    match perms_at(regions, first) {
+        Some(perms) => out.put(map_line(first, behind, perms).as_str().as_bytes()),
+        None => Ok(()),
+    }
+}
+
+// Puts the lines of all runs, in rising order.
+fn put_maps<O: Sink>(regions: &[Region], out: &mut O) -> Result<(), Failed>
+    ensures whole { OnOk result (Appends (O.held out.old) (O.held out.new) (map_lines (map span_of regions.now))) }
+    ensures front { OnErr result (PutsFront (O.held out.old) (O.held out.new) (map_lines (map span_of regions.now))) }
+    ensures cause { OnErr result (Rose (O.faults out.old) (O.faults out.new)) }
+    ensures later { O.faults out.old ≤ O.faults out.new }
+{
+    let mut first = 0;
+    while first < PAGES {
+        let behind = run_end(regions, first);
+        put_run(regions, first, behind, out)?;
+        first = behind;
+    }
+    Ok(())
+}
+
+/// Puts `ok entry X`, and then a line `map X X rwx` for each longest run of neighbouring pages of equal permissions, in
+/// rising order. The second number is the end, which is not of the run. It puts a piece for each line; at `Failed` it put
+/// some front of the text.
+pub fn put_layout<O: Sink>(entry: u32, regions: &[Region], out: &mut O) -> Result<(), Failed>
+    ensures whole { OnOk result (Appends (O.held out.old) (O.held out.new) (layout_text entry (map span_of regions.now))) }
+    ensures front { OnErr result (PutsFront (O.held out.old) (O.held out.new) (layout_text entry (map span_of regions.now))) }
+    ensures cause { OnErr result (Rose (O.faults out.old) (O.faults out.new)) }
+    ensures later { O.faults out.old ≤ O.faults out.new }
+{
+    put_entry(entry, out)?;
+    put_maps(regions, out)
+}

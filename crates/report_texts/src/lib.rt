@@ -1,0 +1,12 @@
+//! Texts that commands write: the lines that a command ends with, the state of a machine, and the layout of an image.
+#![tactic(auto)]
+
+mod layout;
+mod lines;
+mod state;
+mod text;
+
+pub use layout::put_layout;
+pub use lines::{refused_line, report_line};
+pub use state::put_state;
+pub use text::{Line, put_line};

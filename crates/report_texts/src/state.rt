@@ -1,0 +1,187 @@
+// The text about the state of a machine.
+ghost use Rattle.std.specs.Prelude.{◌≡◌, ◌+◌, ◌-◌, ◌*◌, ◌/◌, ◌<◌, ◌≤◌, ◌++◌, codes, decimal, length, slice_index, OnOk, OnErr};
+ghost use Rattle.std.specs.Io.KnownBytes.{Appends};
+ghost use Rattle.std.specs.List.{flat_map, range_with_len};
+ghost use Rattle.arrayvec.specs.ArrayString.{array_string_len};
+ghost use Rattle.cape_io.specs.Devices.{PutsFront, Rose};
+ghost use Rattle.bit_laws.specs.Digits.{hex_word};
+ghost use Rattle.rvv_meaning.specs.Texts.{newline};
+ghost use Rattle.report_texts.specs.StateTexts.{word_line, number_line, register_line, register_lines, control_lines, hex_byte, vector_byte, vector_bytes, vector_line, vector_lines, state_text, flag};
+
+use crate::text::{Line, push_byte, push_hex, put_line};
+use cape_io::{Failed, Sink};
+use itoa::Buffer;
+use machine::Machine;
+use rvv_meaning::Csrs;
+
+// How many registers there are of each kind.
+const REGISTERS: u8 = 32;
+
+// The bits of a byte.
+const BYTE_BITS: u32 = 8;
+
+// The most bytes of a vector register that are put at once.
+const PIECE: u32 = 64;
+
+// Appends a space, a word and the end of the line.
+fn push_word(line: &mut Line, value: u32)
+    requires { array_string_len line.old ≤ 200 }
+    ensures text { line.new.bytes ≡ line.old.bytes ++ codes " " ++ hex_word value ++ newline }
+    ensures room { array_string_len line.new ≤ array_string_len line.old + 10 }
+{
+    line.push_str(" ");
+    push_hex(line, value);
+    line.push_str("\n");
+}
+
+// Appends a space, a number and the end of the line.
+fn push_number(line: &mut Line, value: u32)
+    requires { array_string_len line.old ≤ 200 }
+    ensures text { line.new.bytes ≡ line.old.bytes ++ codes " " ++ decimal value ++ newline }
+    ensures room { array_string_len line.new ≤ array_string_len line.old + 12 }
+{
+    let mut digits = Buffer::new();
+    line.push_str(" ");
+    line.push_str(digits.format(value));
+    line.push_str("\n");
+}
+
+// The line of the place.
+fn pc_line(pc: u32) -> Line
+    ensures { result.bytes ≡ word_line (codes "pc") pc }
+{
+    let mut line = Line::new();
+    line.push_str("pc");
+    push_word(&mut line, pc);
+    line
+}
+
+// The line of a register.
+fn register_line(machine: &Machine, r: u8) -> Line
+    requires { r < 32 }
+    ensures { result.bytes ≡ register_line machine.now.core r }
+{
+    let mut line = Line::new();
+    let mut digits = Buffer::new();
+    line.push_str("x");
+    line.push_str(digits.format(r));
+    push_word(&mut line, machine.regs().get(r));
+    line
+}
+
+// The lines of the control registers.
+#[tactic(auto, unfolding(crate::specs::StateTexts::control_lines))]
+fn control_lines(csrs: &Csrs) -> Line
+    ensures { result.bytes ≡ control_lines csrs.now }
+{
+    let mut lines = Line::new();
+    lines.push_str("vl");
+    push_number(&mut lines, csrs.vl);
+    lines.push_str("vtype");
+    push_word(&mut lines, csrs.vtype);
+    lines.push_str("vstart");
+    push_number(&mut lines, csrs.vstart);
+    lines.push_str("vxrm");
+    push_number(&mut lines, u32::from(csrs.vxrm));
+    lines.push_str("vxsat");
+    push_number(&mut lines, u32::from(csrs.vxsat));
+    lines
+}
+
+// The name of a vector register and a space.
+fn vector_name(r: u8) -> Line
+    ensures { result.bytes ≡ codes "v" ++ decimal r ++ codes " " }
+{
+    let mut line = Line::new();
+    let mut digits = Buffer::new();
+    line.push_str("v");
+    line.push_str(digits.format(r));
+    line.push_str(" ");
+    line
+}
+
+// The bytes of a vector register from one on and before another.
+fn byte_digits(machine: &Machine, r: u8, first: u32, behind: u32) -> Line
+    requires register { r < 32 }
+    requires order { first ≤ behind }
+    requires end { behind ≤ machine.now.core.csrs.vlen / 8 }
+    requires few { behind ≤ first + 64 }
+    ensures { result.bytes ≡ flat_map (vector_byte machine.now.core r) (range_with_len first (behind - first)) }
+{
+    let mut line = Line::new();
+    for j in first..behind {
+        push_byte(&mut line, machine.vreg_byte(r, j));
+    }
+    line
+}
+
+// Puts the bytes of a vector register.
+fn put_bytes<E: Sink>(machine: &Machine, r: u8, err: &mut E) -> Result<(), Failed>
+    requires register { r < 32 }
+    ensures whole { OnOk result (Appends (E.held err.old) (E.held err.new) (vector_bytes machine.now.core r)) }
+    ensures front { OnErr result (PutsFront (E.held err.old) (E.held err.new) (vector_bytes machine.now.core r)) }
+    ensures cause { OnErr result (Rose (E.faults err.old) (E.faults err.new)) }
+    ensures later { E.faults err.old ≤ E.faults err.new }
+{
+    let bytes = machine.csrs().vlen / BYTE_BITS;
+    let mut first = 0;
+    while first < bytes {
+        let behind = first + (bytes - first).min(PIECE);
+        put_line(&byte_digits(machine, r, first, behind), err)?;
+        first = behind;
+    }
+    Ok(())
+}
+
+// Puts the line of a vector register.
+fn put_vector<E: Sink>(machine: &Machine, r: u8, err: &mut E) -> Result<(), Failed>
+    requires register { r < 32 }
+    ensures whole { OnOk result (Appends (E.held err.old) (E.held err.new) (vector_line machine.now.core r)) }
+    ensures front { OnErr result (PutsFront (E.held err.old) (E.held err.new) (vector_line machine.now.core r)) }
+    ensures cause { OnErr result (Rose (E.faults err.old) (E.faults err.new)) }
+    ensures later { E.faults err.old ≤ E.faults err.new }
+{
+    put_line(&vector_name(r), err)?;
+    put_bytes(machine, r, err)?;
+    err.put(b"\n")
+}
+
+// Puts the lines of the registers.
+fn put_registers<E: Sink>(machine: &Machine, err: &mut E) -> Result<(), Failed>
+    ensures whole { OnOk result (Appends (E.held err.old) (E.held err.new) (register_lines machine.now.core)) }
+    ensures front { OnErr result (PutsFront (E.held err.old) (E.held err.new) (register_lines machine.now.core)) }
+    ensures cause { OnErr result (Rose (E.faults err.old) (E.faults err.new)) }
+    ensures later { E.faults err.old ≤ E.faults err.new }
+{
+    for r in 0..REGISTERS {
+        put_line(&register_line(machine, r), err)?;
+    }
+    Ok(())
+}
+
+// Puts the lines of the vector registers.
+fn put_vectors<E: Sink>(machine: &Machine, err: &mut E) -> Result<(), Failed>
+    ensures whole { OnOk result (Appends (E.held err.old) (E.held err.new) (vector_lines machine.now.core)) }
+    ensures front { OnErr result (PutsFront (E.held err.old) (E.held err.new) (vector_lines machine.now.core)) }
+    ensures cause { OnErr result (Rose (E.faults err.old) (E.faults err.new)) }
+    ensures later { E.faults err.old ≤ E.faults err.new }
+{
+    for r in 0..REGISTERS {
+        put_vector(machine, r, err)?;
+    }
+    Ok(())
+}
+
+/// Puts the place, the registers, the control registers and the vector registers, one a line. It puts no piece of more
+/// than 240 bytes; at `Failed` it put some front of the text.
+pub fn put_state<E: Sink>(machine: &Machine, err: &mut E) -> Result<(), Failed>
+    ensures whole { OnOk result (Appends (E.held err.old) (E.held err.new) (state_text machine.now.core)) }
+    ensures front { OnErr result (PutsFront (E.held err.old) (E.held err.new) (state_text machine.now.core)) }
+    ensures cause { OnErr result (Rose (E.faults err.old) (E.faults err.new)) }
+    ensures later { E.faults err.old ≤ E.faults err.new }
+{
+    put_line(&pc_line(machine.pc()), err)?;
+    put_registers(machine, err)?;
+    put_line(&control_lines(machine.csrs()), err)?;
+    put_vectors(machine, err)
+}

@@ -1,2 +1,0 @@
--- What is told of words.
-pub mod Answers
