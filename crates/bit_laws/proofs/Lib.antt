@@ -2,3 +2,4 @@
 pub mod Numbers
 pub mod Lists
 pub mod Digits
+pub mod Signed

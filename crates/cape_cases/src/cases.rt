@@ -7,6 +7,9 @@ use crate::runs::end_of;
 use crate::texts::push_ended;
 use std::alloc::{AllocError, Global};
 
+// What stands before the name of a case.
+const HEAD: &str = "case ";
+
 // What begins a comment.
 const COMMENT: char = '#';
 
@@ -79,11 +82,10 @@ impl Case {
         Ok(())
     }
 
-    // Takes a line, and appends what is told of it.
+    // Takes a line after the first.
     fn take_line(&mut self, alloc: Global, told: &mut String, line: &str) -> Result<(), Unread> {
         let (head, text) = line.split_once(' ').unwrap_or((line, ""));
         match head {
-            "case" => writeln!(told, "{line}")?,
             "call" => {
                 writeln!(told, "{line}")?;
                 self.push_call(alloc, told, text)?;
@@ -106,27 +108,35 @@ impl Case {
     }
 }
 
-// Appends what is told of the lines of a case.
+// Appends what is told of the lines after the first.
 fn push_told(alloc: Global, told: &mut String, lines: &str) -> Result<(), Unread> {
     let mut case = Case::new(alloc);
     for line in lines.lines() {
-        if !line.is_empty() && !line.starts_with(COMMENT) {
+        if !line.starts_with(COMMENT) {
             case.take_line(alloc, told, line)?;
         }
     }
     Ok(())
 }
 
-/// What is told of a case, and an empty line. Of lines that are comments, nothing is told.
+/// What is told of a case, and an empty line. Of nothing, and of a comment, nothing is told.
 pub(crate) fn told_of(alloc: Global, lines: &str) -> Result<String, AllocError> {
     let mut told = String::new(alloc);
-    match push_told(alloc, &mut told, lines) {
+    let lines = lines.trim();
+    if lines.is_empty() || lines.starts_with(COMMENT) {
+        return Ok(told);
+    }
+    let (head, rest) = lines.split_once('\n').unwrap_or((lines, ""));
+    writeln!(told, "{head}")?;
+    if !head.starts_with(HEAD) {
+        told.push_str(NO_FORM)?;
+        return Ok(told);
+    }
+    match push_told(alloc, &mut told, rest) {
         Ok(()) => {}
         Err(Unread::Form) => told.push_str(NO_FORM)?,
         Err(Unread::NoMemory) => return Err(AllocError),
     }
-    if !told.is_empty() {
-        told.push('\n')?;
-    }
+    told.push('\n')?;
     Ok(told)
 }

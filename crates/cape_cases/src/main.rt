@@ -1,8 +1,8 @@
-//! Makes calls of the top call that are written as text, over devices in memory, and tells how each ended. A case is some
-//! lines of the input, up to an empty one. Lines that begin with `#` are passed over.
+//! Makes calls of the top call that are written as text, over devices in memory, and tells how each ended. A case is a few
+//! lines of the input, and an empty line ends it. Lines that begin with `#` are passed over.
 //!
 //! ```text
-//! case NAME            its name
+//! case NAME            its name, on its first line
 //! code WORD..          words of instructions of the file `A`, after the headers of an image of one segment, which is
 //!                      loaded at 00010000, can be read and executed, and is entered at 00010054
 //! image WORD..         words of the file `A` as they stand; they follow those of earlier lines
@@ -19,7 +19,7 @@
 //! A word of an image is a hexadecimal number, stored with its lowest byte first; `WORD*N` stands for N of it. Numbers are
 //! decimal. In a text `\n` is the end of a line, and `\xHH` a byte.
 //!
-//! A case is told by its name and by these lines for each call. At a line of no such form it is told by `form`, and ends.
+//! A case is told by its name and these lines for each call, and by `form` at its first line of no such form:
 //!
 //! ```text
 //! call WORD..          the call

@@ -1,4 +1,3 @@
--- Elements of vector registers: their places, their numbers, and the values of the operations on them.
+-- Elements of vector registers: their places and their numbers.
 pub mod Places
 pub mod Elements
-pub mod Values

@@ -1,6 +1,6 @@
 -- How an element of a destination stands to the instruction that writes it, and what becomes of one that is not computed
 -- (vector extension 1.0, sections 3.4.3 and 5.3 to 5.4).
-use Rattle.std.specs.Prelude.{ℕ, Bool, cond, ◌&&◌, ◌||◌, not, ◌-◌, ◌^◌}
+use Rattle.std.specs.Prelude.{ℕ, Bool, true, false, cond, ◌&&◌, ◌||◌, not, ◌-◌, ◌^◌}
 use lib.Dec.{ltb}
 
 -- before the first element that is computed; computed; left out by the mask; behind the last one
@@ -15,6 +15,13 @@ pub data Place : Type 0 where
 abbrev pub place_of : (vstart from len : ℕ) (masked : Bool) (mask : ℕ → Bool) → ℕ → Place
 place_of vstart from len masked mask e =
     cond (ltb e vstart || (ltb e from && ltb e len)) prestart (cond (ltb e len) (cond (not masked || mask e) active masked_off) tail)
+
+-- the element is computed
+abbrev pub is_active : Place → Bool
+is_active prestart = false
+is_active active = true
+is_active masked_off = false
+is_active tail = false
 
 -- what a free element of w bits becomes: all ones where the policy is ones, and else what it was
 abbrev pub freed : (ones : Bool) (w old : ℕ) → ℕ

@@ -1,3 +1,2 @@
-//! Elements of vector registers: their places, their numbers, and the values of the operations on
-//! them. It holds no code.
+//! Elements of vector registers: their places and their numbers. It holds no code.
 #![tactic(auto)]

@@ -11,13 +11,13 @@ use Rattle.micro_ir.specs.declared.op.MicroOp.{MicroOp}
 use Rattle.micro_ir.specs.Steps.{element}
 use Rattle.micro_ir.specs.WorkRows.{IsOperandRow}
 use Rattle.frame_laws.specs.Shapes.{Shape, Bounds, first_of, element_number}
-use Rattle.frame_laws.specs.Kinds.{Tells}
+use Rattle.micro_ir.specs.Kinds.{Tells}
 use Rattle.frame_laws.specs.Bytes.{size_of}
 use Rattle.frame_masks.specs.Telling.{Told}
 use Rattle.frame_masks.specs.Laws.{MaskLegal}
 use Rattle.frame_masks.proofs.Bytes.{mask_law}
 use Rattle.frame_classes.specs.Operands.{Operand, group, scalar, operand_in, operand_of, row_of, is_read}
-use Rattle.frame_classes.specs.Masks.{Pair, Truth, TruthKind, mask_body, mask_value, IsMaskReadable, IsCompared, TellsKind, ComparedBytesLaw}
+use Rattle.frame_classes.specs.Masks.{Pair, Truth, mask_value, IsMaskReadable, IsCompared, ComparedBytesLaw}
 use Rattle.frame_classes.proofs.Operands.{IsThere, there-row, operand-here, whole-register, same-operand, same-here}
 
 -- an operand that can be read stands in its rows
@@ -81,7 +81,7 @@ compared-legal i with truth columns compared =
           (λ (x : is_read with.a g r ≡ true). read-first i with.a g r compared.a l x)
           (λ (x : is_read with.b g r ≡ true). read-first i with.b g r compared.b l x)
           (or_cases (is_read with.a g r) (is_read with.b g r) t);
-      reads_only = λ g u v p c l below same.
+      reads_only = λ g u v p c l below less same.
           compared.result u (first_of i g + p) c
           ∙ rw (
             same-operand i with.a g p u v per below (λ r at x h. same r at (or_left (is_read with.a g r) _ x) h),
@@ -90,25 +90,10 @@ compared-legal i with truth columns compared =
     }
 
 pub compared_bytes_law : ComparedBytesLaw
-compared_bytes_law i b with truth kind s compared bounded tells some whole =
+compared_bytes_law i b with truth body s compared bounded tells some whole =
     let v = registers_of s in
     let same : (op : Operand) (e : ℕ) → operand_in op i.vlen i.width i.scalar (bits_of v) e ≡ operand_of op (size_of i) i.width i.scalar v e =
     λ op e. same-here i op s e compared.framed.vlen some whole in
-    mask_law i b (reads with) (mask_body with kind) (mask_value i with truth v) s (compared-legal i with truth s.columns compared) bounded
-    (λ g l.
-    told i b with truth s.columns g (mask_body with kind g) compared
-    (tells (row_of with.a g) (row_of with.b g) (mask_operand-row i with.a g compared.a l) (mask_operand-row i with.b g compared.b l)))
-    some (λ e. compared.result (bits_of v) e (mask_bit_of v 0 e) ∙ rw (same with.a e, same with.b e) refl)
-
--- A list tells each truth that is the same for operands of w bits.
-pub truth-same : (w : ℕ) (reads : Bool) (t u : Truth) (kind : TruthKind) → ((a b : ℕ) (m : Bool) → a < 2 ^ w → b < 2 ^ w → t a b m ≡ u a b m)
-    → TellsKind w reads t kind → TellsKind w reads u kind
-unfolding Tells
-truth-same w reads t u kind same tells a b ra rb s k col fits inside =
-    let x = tells a b ra rb s k col fits inside in
-    let n : ℕ → ℕ = λ r. number w (element w k col s r) in
-    let below : (r : ℕ) → n r < 2 ^ w = λ r. number-lt w (element w k col s r) in
-    record {
-      told = λ m mask. x.told m mask ∙ same (n a) (n b) m (below a) (below b);
-      kept = x.kept;
-    }
+    mask_law i b (reads with) body (mask_value i with truth v) s (compared-legal i with truth s.columns compared) bounded
+    (λ g l. told i b with truth s.columns g (body g) compared (tells g l))
+    some (λ e less. compared.result (bits_of v) e (mask_bit_of v 0 e) ∙ rw (same with.a e, same with.b e) refl)

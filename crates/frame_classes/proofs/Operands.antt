@@ -3,7 +3,7 @@ use Rattle.std.proofs.Common.{◌≡◌, ℕ, ◌+◌, ◌*◌, ◌/◌, ◌^◌
 use Rattle.std.proofs.lemmas.Bool.{eq-eqb}
 use Rattle.std.proofs.lemmas.Nat.{div-mul-add, mod-mul-add}
 use Rattle.std.proofs.Math.Nat.{mul-le-mul_right}
-use Rattle.bit_laws.specs.Numbers.{number}
+use Rattle.bit_laws.specs.Numbers.{number, bit_of}
 use Rattle.bit_laws.proofs.Numbers.{number-same, number-bits}
 use Rattle.bit_rows.specs.Slices.{Slices}
 use Rattle.cam_chain.specs.Views.{registers_of}
@@ -11,7 +11,7 @@ use Rattle.steer_net.specs.Network.{bit_in}
 use Rattle.element_ops.specs.Elements.{Registers, element_in, bits_of, byte_at}
 use Rattle.element_ops.proofs.Reading.{element-bits}
 use Rattle.micro_ir.specs.Steps.{element}
-use Rattle.micro_ir.specs.WorkRows.{IsOperandRow}
+use Rattle.micro_ir.specs.WorkRows.{IsOperandRow, scalar_row}
 use Rattle.micro_ir.proofs.Lift.{element-inside}
 use Rattle.frame_laws.specs.Shapes.{Shape, first_of, element_number}
 use Rattle.frame_laws.specs.Realising.{Splatted}
@@ -24,7 +24,7 @@ use Rattle.frame_classes.specs.Operands.{Operand, group, scalar, operand_in, ope
 -- the operand stands in its rows: its group ends with v31 at the latest, or the scalar is put into its row
 abbrev pub IsThere : Shape → Operand → Type 0
 IsThere i (group r) = r + i.registers ≤ 32
-IsThere i scalar = i.splat ≡ true
+IsThere i scalar = (i.splat ≡ true) × (i.scalar_width ≡ i.width)
 
 -- it stands in a row of an operand
 pub there-row : (i : Shape) (op : Operand) (g : ℕ) → IsThere i op → g < i.registers → IsOperandRow (row_of op g)
@@ -41,7 +41,13 @@ operand-here (group r) i g k col s pos lanes long fits inside there splatted =
     element-inside i.width k col s (r + g) j below ∙ sym (bit_place s (r + g) col (k * i.width + j) lt))
     ∙ sym (element-placed i.width (32 / i.width) i.vlen s.columns k col (bit_in s) r g pos lanes long fits inside)
 operand-here scalar i g k col s pos lanes long fits inside there splatted =
-    number-same i.width _ _ (λ j below. splatted there k col j fits inside below) ∙ number-bits i.width i.scalar
+    number-same i.width (element i.width k col s scalar_row) (bit_of i.scalar) (λ j below.
+    let lt : k * i.width + j < 32 = omega arith in
+    let place : col * 32 + (k * i.width + j) < 32 * s.columns = omega arith in
+    element-inside i.width k col s scalar_row j below ∙ sym (bit_place s scalar_row col (k * i.width + j) lt)
+    ∙ splatted there.0 (col * 32 + (k * i.width + j)) place
+    ∙ rw (there.1, mod-mul-add col 32 (k * i.width + j) lt, mod-mul-add k i.width j below) refl)
+    ∙ number-bits i.width i.scalar
 
 -- a register holds whole elements
 pub whole-register : (w vlen columns : ℕ) → 0 < w → 32 / w * w ≡ 32 → vlen ≡ 32 * columns → vlen / w * w ≡ vlen

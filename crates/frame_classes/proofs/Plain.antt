@@ -9,7 +9,7 @@ use Rattle.element_ops.specs.Elements.{bits_of, mask_bit_of}
 use Rattle.micro_ir.specs.declared.op.MicroOp.{MicroOp}
 use Rattle.micro_ir.specs.Steps.{element}
 use Rattle.frame_laws.specs.Shapes.{Shape, Bounds, first_of, element_number}
-use Rattle.frame_laws.specs.Kinds.{Realises}
+use Rattle.micro_ir.specs.Kinds.{Realises}
 use Rattle.frame_laws.specs.Realising.{Realised}
 use Rattle.frame_laws.specs.Laws.{Legal}
 use Rattle.frame_laws.specs.Bytes.{size_of}
@@ -18,7 +18,7 @@ use Rattle.frame_laws.proofs.Bytes.{bytes_law}
 use Rattle.micro_ir.specs.WorkRows.{IsOperandRow}
 use Rattle.frame_classes.specs.Operands.{Operand, group, scalar, operand_in, operand_of, row_of, is_read, IsReadable}
 use Rattle.frame_classes.proofs.Operands.{IsThere, there-row, operand-here, whole-register, same-operand, same-here}
-use Rattle.frame_classes.specs.Plain.{KindLaw, Operands, Value, Kind, plain_body, plain_value, IsPlain, IsKind, PlainLaw, PlainBytesLaw}
+use Rattle.frame_classes.specs.Plain.{Operands, Value, plain_value, IsPlain, PlainLaw, PlainBytesLaw}
 
 -- an operand that can be read stands in its rows
 there : (i : Shape) (op : Operand) → IsReadable i op → IsThere i op
@@ -80,7 +80,7 @@ plain-legal i with value columns plain =
           (λ (y : is_read with.addend g r ≡ true). read-safe i with.addend g r f.room plain.addend l y)
           (or_cases (is_read with.b g r) (is_read with.addend g r) x))
           (or_cases (is_read with.a g r) (is_read with.b g r || is_read with.addend g r) t);
-      reads_only = λ g u v p c l below same.
+      reads_only = λ g u v p c l below less same.
           plain.result u (first_of i g + p) c
           ∙ rw (
             same-operand i with.a g p u v per below (λ r at x h. same r at (or_left (is_read with.a g r) _ x) h),
@@ -92,40 +92,15 @@ plain-legal i with value columns plain =
 -- ---- the laws
 
 pub plain_law : PlainLaw
-plain_law i b with value kind v s plain bounded real holds =
-    frame_law i b (reads with) (plain_body i with kind) v s (plain-legal i with value s.columns plain) bounded
-    (λ g l. plain-realised i b with value s.columns g (plain_body i with kind g) plain (real g l)) holds
+plain_law i b with value body v s plain bounded real holds =
+    frame_law i b (reads with) body v s (plain-legal i with value s.columns plain) bounded
+    (λ g l. plain-realised i b with value s.columns g (body g) plain (real g l)) holds
 
 pub plain_bytes_law : PlainBytesLaw
-plain_bytes_law i b with value kind s plain bounded real some whole =
+plain_bytes_law i b with value body s plain bounded real some whole =
     let v = registers_of s in
     let same : (op : Operand) (e : ℕ) → operand_in op i.vlen i.width i.scalar (bits_of v) e ≡ operand_of op (size_of i) i.width i.scalar v e =
     λ op e. same-here i op s e plain.framed.vlen some whole in
-    bytes_law i b (reads with) (plain_body i with kind) (plain_value i with value v) s (plain-legal i with value s.columns plain) bounded
-    (λ g l. plain-realised i b with value s.columns g (plain_body i with kind g) plain (real g l)) some whole
-    (λ e. plain.result (bits_of v) e (mask_bit_of v 0 e) ∙ rw (same with.a e, same with.b e, same with.addend e) refl)
-
--- ---- kinds
-
-pub operand-row : (i : Shape) (op : Operand) (g : ℕ) → IsReadable i op → g < i.registers → IsOperandRow (row_of op g)
-operand-row i op g readable below = there-row i op g (there i op readable) below
-
-pub kind_law : KindLaw
-kind_law i with value kind columns plain is g below =
-    let room = plain.framed.room in
-    is (row_of with.a g) (row_of with.b g) (row_of with.addend g) (i.vd + g)
-    (operand-row i with.a g plain.a below) (operand-row i with.b g plain.b below) (operand-row i with.addend g plain.addend below) (omega arith)
-
--- A list realises each value that is the same for operands of w bits.
-pub kind-same : (w : ℕ) (reads : Bool) (u v : Value) (kind : Kind) → ((a b addend : ℕ) (m : Bool) → a < 2 ^ w → b < 2 ^ w → addend < 2 ^ w → u a b addend m ≡ v a b addend m)
-    → IsKind w reads u kind → IsKind w reads v kind
-unfolding Realises
-kind-same w reads u v kind same is a b addend to ra rb rc rt s k col fits inside =
-    let x = is a b addend to ra rb rc rt s k col fits inside in
-    let n : ℕ → ℕ = λ r. number w (element w k col s r) in
-    let below : (r : ℕ) → n r < 2 ^ w = λ r. number-lt w (element w k col s r) in
-    record {
-      active = λ h m mask. x.active h m mask ∙ ap (low w) (same (n a) (n b) (n addend) m (below a) (below b) (below addend));
-      idle = x.idle;
-      kept = x.kept;
-    }
+    bytes_law i b (reads with) body (plain_value i with value v) s (plain-legal i with value s.columns plain) bounded
+    (λ g l. plain-realised i b with value s.columns g (body g) plain (real g l)) some whole
+    (λ e less. plain.result (bits_of v) e (mask_bit_of v 0 e) ∙ rw (same with.a e, same with.b e, same with.addend e) refl)

@@ -7,9 +7,8 @@ use Rattle.cam_chain.specs.Views.{registers_of}
 use Rattle.element_ops.specs.Elements.{Registers, mask_bit_of}
 use Rattle.micro_ir.specs.declared.op.MicroOp.{MicroOp}
 use Rattle.micro_ir.specs.Replay.{replay}
-use Rattle.micro_ir.specs.WorkRows.{IsOperandRow}
 use Rattle.frame_laws.specs.Shapes.{Shape, Bounds, Bounded}
-use Rattle.frame_laws.specs.Kinds.{Tells}
+use Rattle.micro_ir.specs.Kinds.{Tells}
 use Rattle.frame_laws.specs.Bytes.{size_of, mask_after}
 use Rattle.frame_masks.specs.Programs.{mask_of, mask_program}
 use Rattle.frame_masks.specs.Laws.{MaskFramed}
@@ -20,17 +19,9 @@ pub record Pair : Type 0 where
   pub a : Operand
   pub b : Operand
 
--- the list of a kind that makes a mask, from the rows of a and b
-abbrev pub TruthKind : Type 0
-TruthKind = (a b : ℕ) → List MicroOp
-
--- the truth that it tells, from the operands' numbers and the mask bit
+-- the truth of an element, from the operands' numbers and the mask bit
 abbrev pub Truth : Type 0
 Truth = (a b : ℕ) → Bool → Bool
-
--- the list of register g of the operands' groups
-abbrev pub mask_body : Pair → TruthKind → (g : ℕ) → List MicroOp
-mask_body with kind g = kind (row_of with.a g) (row_of with.b g)
 
 -- the result of an element, from registers that are bits
 abbrev pub mask_result : (vlen w x : ℕ) → Pair → Truth → Registers → ℕ → Bool → ℕ
@@ -45,7 +36,7 @@ mask_value i with truth v e =
 -- scalar stands in its row.
 abbrev pub IsMaskReadable : Shape → Operand → Type 0
 IsMaskReadable i (group r) = (r + i.registers ≤ 32) × ((i.vd ≡ r) ⊎ ((i.vd < r) ⊎ (r + i.registers ≤ i.vd)))
-IsMaskReadable i scalar = i.splat ≡ true
+IsMaskReadable i scalar = (i.splat ≡ true) × (i.scalar_width ≡ i.width)
 
 -- What an instruction that makes a mask from these operands needs, on slices of so many columns.
 pub record IsCompared (i : Shape) (with : Pair) (truth : Truth) (columns : ℕ) : Type 0 where
@@ -54,14 +45,15 @@ pub record IsCompared (i : Shape) (with : Pair) (truth : Truth) (columns : ℕ) 
   pub a : IsMaskReadable i with.a
   pub b : IsMaskReadable i with.b
 
--- The kind's list tells its truth wherever its operands stand in registers or in the scalar's row.
-abbrev pub TellsKind : (w : ℕ) (reads : Bool) → Truth → TruthKind → Type 0
-TellsKind w reads truth kind = (a b : ℕ) → IsOperandRow a → IsOperandRow b → Tells w reads (λ n c. truth (n a) (n b) c) (kind a b)
+-- The list of each register of the operands' groups tells the truth, from the rows of the operands.
+abbrev pub AllTell : (width registers : ℕ) (reads : Bool) → Pair → Truth → (body : ℕ → List MicroOp) → Type 0
+AllTell width registers reads with truth body =
+    (g : ℕ) → g < registers → Tells width reads (λ n c. truth (n (row_of with.a g)) (n (row_of with.b g)) c) (body g)
 
--- The program of an instruction that makes a mask, whose kind's list tells its truth, leaves the registers of its meaning, as
--- lists of bytes. Elements of the operands are whole bytes.
+-- The program of an instruction that makes a mask, whose lists tell its truth, leaves the registers of its meaning, as lists of
+-- bytes. Elements of the operands are whole bytes.
 abbrev pub ComparedBytesLaw : Type 0
 ComparedBytesLaw =
-    (i : Shape) (b : Bounds) (with : Pair) (truth : Truth) (kind : TruthKind) (s : Slices)
-    → IsCompared i with truth s.columns → Bounded (mask_of i) b → TellsKind i.width i.reads truth kind → 0 < s.columns → 8 * (i.width / 8) ≡ i.width
-    → registers_of (replay (mask_program i b (mask_body with kind)) s) ≡ mask_after (mask_of i) (mask_value i with truth (registers_of s)) (registers_of s)
+    (i : Shape) (b : Bounds) (with : Pair) (truth : Truth) (body : ℕ → List MicroOp) (s : Slices)
+    → IsCompared i with truth s.columns → Bounded (mask_of i) b → AllTell i.width i.registers i.reads with truth body → 0 < s.columns → 8 * (i.width / 8) ≡ i.width
+    → registers_of (replay (mask_program i b body) s) ≡ mask_after (mask_of i) (mask_value i with truth (registers_of s)) (registers_of s)

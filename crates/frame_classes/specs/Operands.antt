@@ -34,4 +34,4 @@ is_read scalar g r = false
 -- them; or the scalar stands in its row.
 abbrev pub IsReadable : Shape → Operand → Type 0
 IsReadable i (group r) = (r + i.registers ≤ 32) × ((r ≡ i.vd) ⊎ ((r + i.registers ≤ i.vd) ⊎ (i.vd + i.registers ≤ r)))
-IsReadable i scalar = i.splat ≡ true
+IsReadable i scalar = (i.splat ≡ true) × (i.scalar_width ≡ i.width)

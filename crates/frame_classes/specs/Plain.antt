@@ -9,10 +9,9 @@ use Rattle.micro_ir.specs.Replay.{replay}
 use Rattle.frame_laws.specs.Shapes.{Shape, Bounds, Bounded}
 use Rattle.frame_laws.specs.Programs.{program}
 use Rattle.frame_laws.specs.Meaning.{after}
-use Rattle.frame_laws.specs.Kinds.{Realises}
+use Rattle.micro_ir.specs.Kinds.{Realises}
 use Rattle.frame_laws.specs.Laws.{Framed, Holds}
 use Rattle.frame_laws.specs.Bytes.{size_of, registers_after}
-use Rattle.micro_ir.specs.WorkRows.{IsOperandRow}
 use Rattle.frame_classes.specs.Operands.{Operand, operand_in, operand_of, row_of, IsReadable}
 
 -- the operands: a, b and, where a kind has a third, the addend
@@ -21,17 +20,9 @@ pub record Operands : Type 0 where
   pub b : Operand
   pub addend : Operand
 
--- A kind's list, from the rows of a, b and the addend and the register that it writes.
-abbrev pub Kind : Type 0
-Kind = (a b addend to : ℕ) → List MicroOp
-
--- its value, from the operands' numbers and the mask bit
+-- the value of an element, from the operands' numbers and the mask bit
 abbrev pub Value : Type 0
 Value = (a b addend : ℕ) → Bool → ℕ
-
--- the list of register g of the destination
-abbrev pub plain_body : Shape → Operands → Kind → (g : ℕ) → List MicroOp
-plain_body i with kind g = kind (row_of with.a g) (row_of with.b g) (row_of with.addend g) (i.vd + g)
 
 -- the result of an element, from registers that are bits
 abbrev pub plain_result : (vlen w x : ℕ) → Operands → Value → Registers → ℕ → Bool → ℕ
@@ -51,34 +42,22 @@ pub record IsPlain (i : Shape) (with : Operands) (value : Value) (columns : ℕ)
   pub b : IsReadable i with.b
   pub addend : IsReadable i with.addend
 
--- the kind's list realises its value at each register of the destination
-abbrev pub KindRealises : Shape → Operands → Value → Kind → Type 0
-KindRealises i with value kind =
-    (g : ℕ) → g < i.registers
-    → Realises i.width (i.vd + g) i.reads (λ n m. value (n (row_of with.a g)) (n (row_of with.b g)) (n (row_of with.addend g)) m) (plain_body i with kind g)
+-- The list of each register of the destination realises the value, from the rows of the operands.
+abbrev pub AllCompute : (width vd registers : ℕ) (reads : Bool) → Operands → Value → (body : ℕ → List MicroOp) → Type 0
+AllCompute width vd registers reads with value body =
+    (g : ℕ) → g < registers
+    → Realises width (vd + g) reads (λ n m. value (n (row_of with.a g)) (n (row_of with.b g)) (n (row_of with.addend g)) m) (body g)
 
--- It does so wherever its operands stand in registers or in the scalar's row.
-abbrev pub IsKind : (w : ℕ) (reads : Bool) → Value → Kind → Type 0
-IsKind w reads value kind =
-    (a b addend to : ℕ) → IsOperandRow a → IsOperandRow b → IsOperandRow addend → to < 32
-    → Realises w to reads (λ n m. value (n a) (n b) (n addend) m) (kind a b addend to)
-
--- The program of a plain instruction whose kind's list realises its value leaves the registers of its meaning.
+-- The program of a plain instruction whose lists realise its value leaves the registers of its meaning.
 abbrev pub PlainLaw : Type 0
 PlainLaw =
-    (i : Shape) (b : Bounds) (with : Operands) (value : Value) (kind : Kind) (v : Registers) (s : Slices)
-    → IsPlain i with value s.columns → Bounded i b → KindRealises i with value kind → Holds i.vlen s v
-    → Holds i.vlen (replay (program i b (plain_body i with kind)) s) (after i v)
+    (i : Shape) (b : Bounds) (with : Operands) (value : Value) (body : ℕ → List MicroOp) (v : Registers) (s : Slices)
+    → IsPlain i with value s.columns → Bounded i b → AllCompute i.width i.vd i.registers i.reads with value body → Holds i.vlen s v
+    → Holds i.vlen (replay (program i b body) s) (after i v)
 
 -- The same on lists of bytes, where elements are whole bytes.
 abbrev pub PlainBytesLaw : Type 0
 PlainBytesLaw =
-    (i : Shape) (b : Bounds) (with : Operands) (value : Value) (kind : Kind) (s : Slices)
-    → IsPlain i with value s.columns → Bounded i b → KindRealises i with value kind → 0 < s.columns → 8 * (i.width / 8) ≡ i.width
-    → registers_of (replay (program i b (plain_body i with kind)) s) ≡ registers_after i (plain_value i with value (registers_of s)) (registers_of s)
-
--- A kind's list realises its value at the registers of an instruction where it does so everywhere.
-abbrev pub KindLaw : Type 0
-KindLaw =
-    (i : Shape) (with : Operands) (value : Value) (kind : Kind) (columns : ℕ)
-    → IsPlain i with value columns → IsKind i.width i.reads value kind → KindRealises i with value kind
+    (i : Shape) (b : Bounds) (with : Operands) (value : Value) (body : ℕ → List MicroOp) (s : Slices)
+    → IsPlain i with value s.columns → Bounded i b → AllCompute i.width i.vd i.registers i.reads with value body → 0 < s.columns → 8 * (i.width / 8) ≡ i.width
+    → registers_of (replay (program i b body) s) ≡ registers_after i (plain_value i with value (registers_of s)) (registers_of s)

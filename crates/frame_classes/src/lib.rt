@@ -3,7 +3,7 @@
 //! code that runs; each function here is a law.
 #![tactic(auto)]
 
-ghost use Rattle.frame_classes.specs.Plain.{PlainLaw, PlainBytesLaw, KindLaw};
+ghost use Rattle.frame_classes.specs.Plain.{PlainLaw, PlainBytesLaw};
 ghost use Rattle.frame_classes.specs.Masks.{ComparedBytesLaw};
 
 /// The program of a plain instruction leaves the registers of its meaning.
@@ -14,11 +14,6 @@ pub fn plain_law()
 /// The same on registers that are lists of bytes.
 pub fn plain_bytes_law()
     ensures law { PlainBytesLaw }
-{}
-
-/// The list of a kind serves every register of a plain instruction.
-pub fn kind_law()
-    ensures law { KindLaw }
 {}
 
 /// The program of an instruction that makes a mask from two operands leaves the registers of its meaning.

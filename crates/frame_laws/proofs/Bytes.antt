@@ -23,7 +23,7 @@ use Rattle.frame_laws.specs.Shapes.{Shape}
 use Rattle.frame_laws.specs.Programs.{program}
 use Rattle.frame_laws.specs.Meaning.{outcome, place_in, element_after, written, after}
 use Rattle.frame_laws.specs.Bytes.{size_of, element_of_after, registers_after, BytesLaw, bit_of_after, mask_after, BitsLaw}
-use Rattle.frame_laws.proofs.Registers.{frame_law}
+use Rattle.frame_laws.proofs.Registers.{computed, frame_law}
 
 -- ---- lists of bytes with the same bits
 
@@ -109,7 +109,7 @@ bytes_small i value v are =
 
 -- the elements after the instruction are the same, read as bits and read as bytes
 same_elements : (i : Shape) (value : ℕ → ℕ) (v : List (List ℕ)) (size : ℕ) → i.vlen ≡ 8 * size → i.vlen / 8 ≡ size → 0 < size → 8 * (i.width / 8) ≡ i.width → ((q j : ℕ) → byte_at v q j < 2 ^ 8)
-    → ((e : ℕ) → i.result (bits_of v) e (mask_bit_of v 0 e) ≡ value e) → element_after i (bits_of v) ≡ element_of_after i value v
+    → ((e : ℕ) → e < i.len → i.result (bits_of v) e (mask_bit_of v 0 e) ≡ value e) → element_after i (bits_of v) ≡ element_of_after i value v
 unfolding element_after element_of_after bits_of
 same_elements i value v size long by pos whole bytes results = λ x e. each e x
   where
@@ -119,7 +119,7 @@ same_elements i value v size long by pos whole bytes results = λ x e. each e x
         let old : element_in i.vlen (bits_of v) i.vd i.width e ≡ element_of (size_of i) v i.vd i.width e =
         ap (λ (n : ℕ). element_in n (bits_of v) i.vd i.width e) long ∙ sym (element-bits size v i.vd i.width e pos bytes whole)
         ∙ ap (λ (n : ℕ). element_of n v i.vd i.width e) (sym by) in
-        ap (λ (z : ℕ). outcome i z (element_in i.vlen (bits_of v) i.vd i.width e) place) (results e)
+        computed i (mask_bit_of v 0) e (i.result (bits_of v) e (mask_bit_of v 0 e)) (value e) (element_in i.vlen (bits_of v) i.vd i.width e) (results e)
         ∙ ap (λ (z : ℕ). outcome i (value e) z place) old
 
 resized : (a b : ℕ) (v : List (List ℕ)) → a ≡ b → AreRegisters a v → AreRegisters b v
@@ -205,14 +205,14 @@ mask_bytes size v r bit are =
     chosen false f x small = small
 
 -- an element of one bit after the instruction, read as bits and read as bytes
-same_bit : (i : Shape) (value : ℕ → ℕ) (v : List (List ℕ)) (e : ℕ) → i.width ≡ 1 → e < i.vlen → i.result (bits_of v) e (mask_bit_of v 0 e) ≡ value e
+same_bit : (i : Shape) (value : ℕ → ℕ) (v : List (List ℕ)) (e : ℕ) → i.width ≡ 1 → e < i.vlen → (e < i.len → i.result (bits_of v) e (mask_bit_of v 0 e) ≡ value e)
     → element_after i (bits_of v) e ≡ bit_of_after i value v e
 unfolding element_after bit_of_after bits_of
 same_bit i value v e one inside result =
     let at = place_in i (mask_bit_of v 0) e in
     let old : element_in i.vlen (bits_of v) i.vd i.width e ≡ from_bool (mask_bit_of v i.vd e) =
     ap (λ (n : ℕ). element_in i.vlen (bits_of v) i.vd n e) one ∙ one-bit i.vlen (bits_of v) i.vd e inside in
-    ap (λ (z : ℕ). outcome i z (element_in i.vlen (bits_of v) i.vd i.width e) at) result
+    computed i (mask_bit_of v 0) e (i.result (bits_of v) e (mask_bit_of v 0 e)) (value e) (element_in i.vlen (bits_of v) i.vd i.width e) result
     ∙ ap (λ (z : ℕ). outcome i (value e) z at) old
 
 -- and it is a bit
@@ -225,7 +225,7 @@ pub not_in_one : (d n r : ℕ) → n ≡ 1 → r ≢ d → (leb d r && ltb r (d 
 not_in_one d n r one other = grind (arith, nat_tests)
 
 -- a bit of the registers after an instruction whose elements are bits of vd
-pub after-mask : (i : Shape) (value : ℕ → ℕ) (v : List (List ℕ)) (r k : ℕ) → i.width ≡ 1 → i.registers ≡ 1 → k < i.vlen → i.result (bits_of v) k (mask_bit_of v 0 k) ≡ value k
+pub after-mask : (i : Shape) (value : ℕ → ℕ) (v : List (List ℕ)) (r k : ℕ) → i.width ≡ 1 → i.registers ≡ 1 → k < i.vlen → (k < i.len → i.result (bits_of v) k (mask_bit_of v 0 k) ≡ value k)
     → after i (bits_of v) r k ≡ cond (eqb r i.vd) (eqb (bit_of_after i value v k) 1) (bits_of v r k)
 unfolding written with_elements_in
 after-mask i value v r k one single inside result =

@@ -12,7 +12,7 @@ use Rattle.micro_ir.specs.Steps.{micros}
 use Rattle.micro_ir.proofs.Lists.{tally-append, no_counts-and, AllInRange-append, AllInRange-none}
 use Rattle.micro_ir.proofs.StepLists.{tally-micros, length-micros, AllInRange-micros}
 use Rattle.micro_ir.specs.WorkRows.{mask_row, free_row}
-use Rattle.frame_laws.specs.Pieces.{splat, fill_step}
+use Rattle.micro_ir.specs.Pieces.{splat, fill_step}
 use Rattle.frame_laws.specs.Shapes.{Shape, Bounds, first_of}
 use Rattle.frame_laws.specs.Programs.{mask_window, fill, one_register, first_registers, splat_program, program}
 use Rattle.frame_laws.specs.Laws.{Framed}
@@ -24,8 +24,8 @@ use Rattle.frame_laws.specs.Costs.{counts_times, splat_counts, fill_counts, regi
 pub tally-splat : (i : Shape) → tally (splat_program i) ≡ splat_counts i
 unfolding tally splat
 tally-splat i =
-    elim i.splat as (λ x. tally (cond x (micros i.width (splat i.width i.scalar)) []) ≡ cond x (record { searches = 2; updates = 2; passes = 0 }) no_counts) [
-      | true ↦ tally-micros i.width (splat i.width i.scalar)
+    elim i.splat as (λ x. tally (cond x (micros i.scalar_width (splat i.scalar_width i.scalar)) []) ≡ cond x (record { searches = 2; updates = 2; passes = 0 }) no_counts) [
+      | true ↦ tally-micros i.scalar_width (splat i.scalar_width i.scalar)
       | false ↦ refl
     ]
 
@@ -99,8 +99,8 @@ even_tally_law i b body c same = tally_law i b body ∙ ap (counts_and (splat_co
 pub length-splat : (i : Shape) → length (splat_program i) ≡ cond i.splat 4 0
 unfolding splat
 length-splat i =
-    elim i.splat as (λ x. length (cond x (micros i.width (splat i.width i.scalar)) []) ≡ cond x 4 0) [
-      | true ↦ length-micros i.width (splat i.width i.scalar)
+    elim i.splat as (λ x. length (cond x (micros i.scalar_width (splat i.scalar_width i.scalar)) []) ≡ cond x 4 0) [
+      | true ↦ length-micros i.scalar_width (splat i.scalar_width i.scalar)
       | false ↦ refl
     ]
 
@@ -175,8 +175,8 @@ pub range_law : RangeLaw
 unfolding program splat
 range_law i b body columns framed built ranged =
     AllInRange-append columns (splat_program i) (first_registers i b body i.registers)
-    (elim i.splat as (λ x. AllInRange columns (cond x (micros i.width (splat i.width i.scalar)) [])) [
-      | true ↦ AllInRange-micros columns i.width (splat i.width i.scalar) (omega arith, omega arith, (omega arith, omega arith, tt))
+    (elim i.splat as (λ x. AllInRange columns (cond x (micros i.scalar_width (splat i.scalar_width i.scalar)) [])) [
+      | true ↦ AllInRange-micros columns i.scalar_width (splat i.scalar_width i.scalar) (omega arith, omega arith, (omega arith, omega arith, tt))
       | false ↦ AllInRange-none columns
     ])
     (range-first i b body columns i.registers framed built (omega arith) ranged)

@@ -1,6 +1,5 @@
 -- The proofs of the frame's laws.
 pub mod Elements
-pub mod OneElement
 pub mod Ends
 pub mod Windows
 pub mod Registers

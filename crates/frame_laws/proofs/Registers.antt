@@ -1,27 +1,28 @@
 -- The program of an instruction leaves the registers of its meaning.
-use Rattle.std.proofs.Common.{◌≡◌, ◌≢◌, ℕ, zero, suc, ◌+◌, ◌-◌, ◌*◌, ◌/◌, ◌%◌, ◌<◌, ◌≤◌, Bool, true, false, cond, ◌||◌, eqb, leb, List, [], ◌++◌, refl, sym, ◌∙◌, ap, arith, ◌⊎◌, inl, inr, ⊎_elim}
+use Rattle.std.proofs.Common.{◌≡◌, ◌≢◌, ℕ, zero, suc, ◌+◌, ◌-◌, ◌*◌, ◌/◌, ◌%◌, ◌<◌, ◌≤◌, Bool, true, false, cond, ◌&&◌, ◌||◌, eqb, leb, ltb, List, [], ◌++◌, refl, sym, ◌∙◌, ap, arith, ◌⊎◌, inl, inr, ⊎_elim}
 use Rattle.std.proofs.lemmas.Bool.{cases_lt, cases_Bool, cases_eq, eq-eqb, ne_eqb, lt-ltb, le-ltb, leb-true, le-leb, false≢true}
 use Rattle.std.proofs.lemmas.Nat.{div-mul-add, mod-mul-add}
-use Rattle.std.proofs.Math.Nat.{mul-le-mul_right}
+use Rattle.std.proofs.Math.Nat.{mul-le-mul_right, mod-lt}
 use Rattle.bit_laws.specs.Numbers.{number, low, bit_of}
 use Rattle.bit_laws.proofs.Numbers.{number-same, bit-number}
 use Rattle.bit_rows.specs.Slices.{Slices}
 use Rattle.steer_net.specs.Network.{bit_in, is_within}
 use Rattle.element_ops.specs.Elements.{Registers, element_in, with_elements_in}
+use Rattle.element_ops.specs.Places.{prestart, tail}
 use Rattle.micro_ir.specs.declared.op.MicroOp.{MicroOp}
 use Rattle.micro_ir.specs.Replay.{effect, replay}
-use Rattle.micro_ir.specs.Steps.{element, micros}
+use Rattle.micro_ir.specs.Steps.{element, steps_on, micros}
 use Rattle.micro_ir.proofs.Lists.{replay-append}
 use Rattle.micro_ir.proofs.Lift.{replay-columns, micros-element, element-inside}
 use Rattle.micro_ir.specs.WorkRows.{scalar_row}
-use Rattle.frame_laws.specs.Pieces.{splat}
+use Rattle.micro_ir.specs.Pieces.{splat}
 use Rattle.frame_laws.specs.Shapes.{Shape, Bounds, Bounded, element_number}
 use Rattle.frame_laws.specs.Programs.{active_window, mask_window, fill, one_register, first_registers, program}
 use Rattle.frame_laws.specs.Meaning.{outcome, place_in, element_after, written}
 use Rattle.frame_laws.specs.Realising.{Splatted, Windowed, Realised}
 use Rattle.frame_laws.specs.Laws.{SameAt, Legal, AllRealised, FrameLaw, GroupLaw}
 use Rattle.frame_laws.proofs.Elements.{in_element, placed_at, element-placed, bit_place}
-use Rattle.frame_laws.proofs.OneElement.{splat-here, splat-row, splat-fits}
+use Rattle.micro_ir.proofs.Scalars.{splat-here, splat-row, splat-fits}
 use Rattle.frame_laws.proofs.Ends.{ends, outcome-bit, settled}
 use Rattle.frame_laws.proofs.Windows.{none, either, free_same, within_same, within_true, with_windows, windows-columns, windows-active, windows-mask, windows-rest, windows-bits, windows-stand, fill-element}
 
@@ -56,8 +57,8 @@ one_register-element i b g k col body mask s pos d q l vl bounded within_mask to
     let l2 : col < s2.columns = rw cols2 l in
     let l3 : col < s3.columns = rw cols3 l in
     let vl2 : i.vlen ≡ 32 * s2.columns = rw cols2 vl in
-    let splatted2 : Splatted i s2 = λ t k col j q l h. let l0 : col < s.columns = rw (sym cols2) l in
-    windows-rest i b g k col s q l0 34 j (omega arith) (omega arith) h ∙ splatted t k col j q l0 h in
+    let splatted2 : Splatted i s2 = λ t at l. let l0 : at < 32 * s.columns = rw (sym cols2) l in
+    windows-bits i b g s 34 at (omega arith) (omega arith) ∙ splatted t at l0 in
     let stand : Windowed i b g s2 = windows-stand i b g s in
     let does = real s2 vl2 splatted2 stand k col q l2 in
     let old : (r j : ℕ) → (r < 32) ⊎ (r ≡ 34) → j < w → element w k col s2 r j ≡ element w k col s r j =
@@ -97,6 +98,18 @@ one_register-element i b g k col body mask s pos d q l vl bounded within_mask to
     ∙ sym (outcome-bit i z o j at h))))
     (λ (u : r ≢ to). rw (ne_eqb r to u) (does.kept r j small u h ∙ old r j row h))
     (cases_eq r to))
+
+-- a value counts where an element may be computed, and nowhere else
+pub computed : (i : Shape) (mask : ℕ → Bool) (e z y old : ℕ) → (e < i.len → z ≡ y) → outcome i z old (place_in i mask e) ≡ outcome i y old (place_in i mask e)
+computed i mask e z y old same =
+    ⊎_elim
+    (λ (l : e < i.len). ap (λ (x : ℕ). outcome i x old (place_in i mask e)) (same l))
+    (λ (m : i.len ≤ e). rw (le-ltb e i.len m) (past (ltb e i.vstart || (ltb e i.from && false))))
+    (cases_lt e i.len)
+  where
+    past : (b : Bool) → outcome i z old (cond b prestart tail) ≡ outcome i y old (cond b prestart tail)
+    past true = refl
+    past false = refl
 
 -- ---- the registers once some are written
 
@@ -184,7 +197,7 @@ next i b source columns g body v s legal bounded cols lt real holds =
     λ r at x h.
     let y = legal.sources g r lt x in
     let h1 : at < 32 * s.columns = rw (← vl) h in
-    windows-bits i b g s r at y.0 ∙ seen r at y.0 h1 ∙ written_else i g v r at y.1 in
+    windows-bits i b g s r at (omega arith) (omega arith) ∙ seen r at y.0 h1 ∙ written_else i g v r at y.1 in
     let main : (k col r j : ℕ) → k * w + w ≤ 32 → col < s1.columns → (r < 32) ⊎ (r ≡ 34) → j < w → element w k col s1 r j ≡ cond (eqb r to) (bit_of (element_after i v (first + (col * n + k))) j) (element w k col s r j) =
     λ k col r j q l x h.
     let l0 : col < s.columns = rw (sym cols1) l in
@@ -194,8 +207,10 @@ next i b source columns g body v s legal bounded cols lt real holds =
     let old : number w (element w k col s to) ≡ element_in i.vlen v i.vd w e =
     number-same w _ _ (λ j h. holds.registers k col to j q l0 small h ∙ written_else i g v to (col * 32 + (k * w + j)) (inr (omega arith)))
     ∙ sym (element-placed w n i.vlen columns k col v i.vd g pos d legal.framed.vlen q l1) in
+    let result : outcome i (i.result (bit_in s2) e (v 0 e)) (element_in i.vlen v i.vd w e) (place_in i (v 0) e) ≡ element_after i v e =
+    computed i (v 0) e (i.result (bit_in s2) e (v 0 e)) (i.result v e (v 0 e)) (element_in i.vlen v i.vd w e) (λ l. legal.reads_only g (bit_in s2) v (col * n + k) (v 0 e) lt fits.1 l sources) in
     one_register-element i b g k col body (v 0) s pos d q l0 vl bounded fits.0 small (λ t. let z : 0 < i.vd = legal.framed.not_mask t in omega arith) (agrees e fits.0) real holds.scalar r j x h
-    ∙ rw (old, legal.reads_only g (bit_in s2) v (col * n + k) (v 0 e) lt fits.1 sources) refl in
+    ∙ rw (old, result) refl in
     record {
       registers = λ k col r j q l x h.
           let l0 : col < s.columns = rw (sym cols1) l in
@@ -205,10 +220,12 @@ next i b source columns g body v s legal bounded cols lt real holds =
           (λ (u : r ≡ to). rw (u, eq-eqb to to refl) (sym (written_at i columns (suc g) g k col j v pos d legal.framed.vlen q l1 h (omega arith))))
           (λ (u : r ≢ to). rw (ne_eqb r to u) (holds.registers k col r j q l0 x h ∙ sym (written_more i g v r _ u)))
           (cases_eq r to);
-      scalar = λ t k col j q l h.
-          let l0 : col < s.columns = rw (sym cols1) l in
+      scalar = λ t at h.
+          let h0 : at < 32 * s.columns = rw (sym cols1) h in
           let u : 34 ≢ to = omega arith in
-          main k col 34 j q l (inr refl) h ∙ rw (ne_eqb 34 to u) (holds.scalar t k col j q l0 h);
+          let before = in_element w n s 34 at pos d h0 in
+          let now = in_element w n s1 34 at pos d h in
+          now.bit ∙ main (at % 32 / w) (at / 32) 34 (at % 32 % w) now.fits now.inside (inr refl) now.below ∙ rw (ne_eqb 34 to u) (sym before.bit ∙ holds.scalar t at h0);
     }
 
 -- The first g registers of the group, from any state that holds none of them yet.
@@ -238,33 +255,38 @@ group_law i b source body v s g legal bounded real same splatted le =
     )
 
 -- the scalar's steps, on any slices: the scalar stands in its row, and the registers stay
-pub splat-stands : (i : Shape) (s : Slices) → 0 < i.width → 32 / i.width * i.width ≡ 32 → Splatted i (replay (micros i.width (splat i.width i.scalar)) s)
-splat-stands i s pos d t k col j q l h =
-    let l1 : col < s.columns = rw (sym (replay-columns (micros i.width (splat i.width i.scalar)) s)) l in
-    ap (λ (f : ℕ → ℕ → Bool). f 34 j) (micros-element i.width k col (splat i.width i.scalar) s (splat-fits i.width i.scalar) q l1)
-    ∙ splat-here i.width i.scalar (element i.width k col s) j h
+splat-row-here : (w x : ℕ) (s : Slices) (r at : ℕ) → 0 < w → 32 / w * w ≡ 32 → at < 32 * s.columns
+    → bit_in (replay (micros w (splat w x)) s) r at ≡ steps_on (splat w x) (element w (at % 32 / w) (at / 32) s) r (at % 32 % w)
+splat-row-here w x s r at pos d h =
+    let s1 = replay (micros w (splat w x)) s in
+    let h1 : at < 32 * s1.columns = rw (replay-columns (micros w (splat w x)) s) h in
+    let p = in_element w (32 / w) s r at pos d h in
+    let p1 = in_element w (32 / w) s1 r at pos d h1 in
+    p1.bit ∙ ap (λ (f : ℕ → ℕ → Bool). f r (at % 32 % w)) (micros-element w (at % 32 / w) (at / 32) (splat w x) s (splat-fits w x) p.fits p.inside)
 
-pub splat-bits : (i : Shape) (s : Slices) → 0 < i.width → 32 / i.width * i.width ≡ 32 → (r at : ℕ) → r < 32 → at < 32 * s.columns
-    → bit_in (replay (micros i.width (splat i.width i.scalar)) s) r at ≡ bit_in s r at
+pub splat-stands : (i : Shape) (s : Slices) → 0 < i.scalar_width → 32 / i.scalar_width * i.scalar_width ≡ 32 → Splatted i (replay (micros i.scalar_width (splat i.scalar_width i.scalar)) s)
+splat-stands i s pos d t at h =
+    let w = i.scalar_width in
+    let l : at < 32 * s.columns = rw (sym (replay-columns (micros w (splat w i.scalar)) s)) h in
+    splat-row-here w i.scalar s 34 at pos d l ∙ splat-here w i.scalar (element w (at % 32 / w) (at / 32) s) (at % 32 % w) (mod-lt (at % 32) pos)
+
+pub splat-bits : (i : Shape) (s : Slices) → 0 < i.scalar_width → 32 / i.scalar_width * i.scalar_width ≡ 32 → (r at : ℕ) → r < 32 → at < 32 * s.columns
+    → bit_in (replay (micros i.scalar_width (splat i.scalar_width i.scalar)) s) r at ≡ bit_in s r at
 splat-bits i s pos d r at x h =
-    let s1 = replay (micros i.width (splat i.width i.scalar)) s in
-    let cols : s1.columns ≡ s.columns = replay-columns (micros i.width (splat i.width i.scalar)) s in
-    let h1 : at < 32 * s1.columns = rw cols h in
-    let p = in_element i.width (32 / i.width) s r at pos d h in
-    let p1 = in_element i.width (32 / i.width) s1 r at pos d h1 in
-    p1.bit ∙ ap (λ (f : ℕ → ℕ → Bool). f r (at % 32 % i.width)) (micros-element i.width (at % 32 / i.width) (at / 32) (splat i.width i.scalar) s (splat-fits i.width i.scalar) p.fits p.inside)
-    ∙ splat-row i.width i.scalar (element i.width (at % 32 / i.width) (at / 32) s) r (at % 32 % i.width) (omega arith) ∙ sym p.bit
+    let w = i.scalar_width in
+    let p = in_element w (32 / w) s r at pos d h in
+    splat-row-here w i.scalar s r at pos d h ∙ splat-row w i.scalar (element w (at % 32 / w) (at / 32) s) r (at % 32 % w) (omega arith) ∙ sym p.bit
 
 pub frame_law : FrameLaw
 unfolding program
 frame_law i b source body v s legal bounded real same r at x h =
     ⊎_elim
     (λ (t : i.splat ≡ true).
-    let steps = micros i.width (splat i.width i.scalar) in
+    let steps = micros i.scalar_width (splat i.scalar_width i.scalar) in
     let s1 = replay steps s in
     let cols : s1.columns ≡ s.columns = replay-columns steps s in
-    let start : HoldsFirst i 0 v s1 = none_held i v s1 (splat-stands i s legal.framed.width legal.framed.lanes)
-    (λ r at x h. let h1 : at < 32 * s.columns = rw (sym cols) h in splat-bits i s legal.framed.width legal.framed.lanes r at x h1 ∙ same r at x (rw legal.framed.vlen h1)) in
+    let start : HoldsFirst i 0 v s1 = none_held i v s1 (splat-stands i s legal.framed.scalar_width legal.framed.scalar_lanes)
+    (λ r at x h. let h1 : at < 32 * s.columns = rw (sym cols) h in splat-bits i s legal.framed.scalar_width legal.framed.scalar_lanes r at x h1 ∙ same r at x (rw legal.framed.vlen h1)) in
     let s2 = replay (first_registers i b body i.registers) s1 in
     let done = group_runs i b source s.columns body v s1 legal bounded cols real start i.registers (omega arith) in
     let all : replay (program i b body) s ≡ s2 =
@@ -274,7 +296,7 @@ frame_law i b source body v s legal bounded real same r at x h =
     ∙ finished i s.columns i.registers v s2 legal.framed.width legal.framed.lanes legal.framed.vlen (replay-columns (first_registers i b body i.registers) s1 ∙ cols) done r at x h)
     (λ (f : i.splat ≡ false).
     let all : replay (program i b body) s ≡ replay (first_registers i b body i.registers) s =
-    ap (λ (c : Bool). replay (cond c (micros i.width (splat i.width i.scalar)) [] ++ first_registers i b body i.registers) s) f in
+    ap (λ (c : Bool). replay (cond c (micros i.scalar_width (splat i.scalar_width i.scalar)) [] ++ first_registers i b body i.registers) s) f in
     ap (λ (z : Slices). bit_in z r at) all
     ∙ (group_law i b source body v s i.registers legal bounded real same (λ z. absurd (false≢true (sym f ∙ z))) (omega arith)).0 r at x h)
     (cases_Bool i.splat)

@@ -8,7 +8,7 @@ use Rattle.micro_ir.specs.Replay.{effect, replay}
 use Rattle.micro_ir.specs.Steps.{element, fires, steps_on, micros}
 use Rattle.micro_ir.proofs.Lift.{replay-columns, micros-element}
 use Rattle.micro_ir.specs.WorkRows.{active_row, mask_row, scalar_row, free_row}
-use Rattle.frame_laws.specs.Pieces.{fill_step}
+use Rattle.micro_ir.specs.Pieces.{fill_step}
 use Rattle.frame_laws.specs.Shapes.{Shape, Bounds, first_of, element_number}
 use Rattle.frame_laws.specs.Programs.{active_window, mask_window, fill}
 use Rattle.frame_laws.specs.Realising.{Windowed}
@@ -86,12 +86,10 @@ windows-rest i b g k col s fits inside r j m n below =
     ∙ numbered-element i.width k col active_row (first_of i g) (is_within b.from i.len i.masked (bit_in s 0)) s fits inside r j below
     ∙ rw (ne_eqb r 32 m) refl
 
--- the registers stay
-pub windows-bits : (i : Shape) (b : Bounds) (g : ℕ) (s : Slices) (r at : ℕ) → r < 32 → bit_in (with_windows i b g s) r at ≡ bit_in s r at
+-- every other row stays
+pub windows-bits : (i : Shape) (b : Bounds) (g : ℕ) (s : Slices) (r at : ℕ) → r ≢ active_row → r ≢ mask_row → bit_in (with_windows i b g s) r at ≡ bit_in s r at
 unfolding with_windows replay
-windows-bits i b g s r at l =
-    let m : r ≢ 33 = omega arith in
-    let n : r ≢ 32 = omega arith in
+windows-bits i b g s r at n m =
     let s1 = effect (active_window i b g) s in
     let one : bit_in s1 r at ≡ bit_in s r at = rw (ne_eqb r 32 n) refl in
     elim i.reads as (λ x. bit_in (replay (cond x (Window mask_row i.width (first_of i g) b.from i.len true ∷ []) []) s1) r at ≡ bit_in s r at) [
@@ -102,7 +100,7 @@ windows-bits i b g s r at l =
 -- the windows stand in their rows
 pub windows-stand : (i : Shape) (b : Bounds) (g : ℕ) (s : Slices) → Windowed i b g (with_windows i b g s)
 windows-stand i b g s =
-    let kept : bit_in (with_windows i b g s) 0 ≡ bit_in s 0 = λ x at. windows-bits i b g s 0 at (omega arith) x in
+    let kept : bit_in (with_windows i b g s) 0 ≡ bit_in s 0 = λ x at. windows-bits i b g s 0 at (omega arith) (omega arith) x in
     let cols : (with_windows i b g s).columns ≡ s.columns = windows-columns i b g s in
     record {
       active = λ k col j fits inside below. let l : col < s.columns = rw (sym cols) inside in

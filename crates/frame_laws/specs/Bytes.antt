@@ -23,9 +23,9 @@ element_of_after i value v e = outcome i (value e) (element_of (size_of i) v i.v
 abbrev pub registers_after : Shape → (value : ℕ → ℕ) → List (List ℕ) → List (List ℕ)
 registers_after i value v = with_elements (size_of i) v i.vd i.registers i.width (element_of_after i value v)
 
--- The values are the shape's results for these registers, with each element's bit of v0.
+-- The values are the shape's results for these registers, with each element's bit of v0, where an element may be computed.
 abbrev pub AreResults : Shape → (value : ℕ → ℕ) → List (List ℕ) → Type 0
-AreResults i value v = (e : ℕ) → i.result (bits_of v) e (mask_bit_of v 0 e) ≡ value e
+AreResults i value v = (e : ℕ) → e < i.len → i.result (bits_of v) e (mask_bit_of v 0 e) ≡ value e
 
 -- The frame's law on lists of bytes, where elements are whole bytes.
 abbrev pub BytesLaw : Type 0

@@ -22,6 +22,9 @@ pub record Framed (i : Shape) (columns : ℕ) : Type 0 where
   -- each element of the group has a mask bit
   pub numbers : i.registers ≤ i.width
   pub room : i.vd + i.registers ≤ 32
+  -- the scalar is splatted over whole elements
+  pub scalar_width : 0 < i.scalar_width
+  pub scalar_lanes : 32 / i.scalar_width * i.scalar_width ≡ 32
   -- the mask is not overwritten while it is used
   pub not_mask : (i.masked || i.reads) ≡ true → 0 < i.vd
 
@@ -30,8 +33,8 @@ pub record Legal (i : Shape) (source : ℕ → ℕ → Bool) (columns : ℕ) : T
   pub framed : Framed i columns
   -- none is overwritten before it is read
   pub sources : (g r : ℕ) → g < i.registers → source g r ≡ true → (r < 32) × ((r < i.vd) ⊎ (i.vd + g ≤ r))
-  -- the results depend on them alone
-  pub reads_only : (g : ℕ) (u v : Registers) (p : ℕ) (c : Bool) → g < i.registers → p < i.vlen / i.width → SameAt (source g) i.vlen u v
+  -- the results of elements that may be computed depend on them alone
+  pub reads_only : (g : ℕ) (u v : Registers) (p : ℕ) (c : Bool) → g < i.registers → p < i.vlen / i.width → first_of i g + p < i.len → SameAt (source g) i.vlen u v
       → i.result u (first_of i g + p) c ≡ i.result v (first_of i g + p) c
 
 -- the list of each register realises it

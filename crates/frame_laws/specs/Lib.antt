@@ -1,10 +1,8 @@
 -- The frame of vector instructions: the operations that stand round what computes a result, what they make of the
 -- registers, and the laws of it.
-pub mod Pieces
 pub mod Shapes
 pub mod Programs
 pub mod Meaning
-pub mod Kinds
 pub mod Realising
 pub mod Laws
 pub mod Costs

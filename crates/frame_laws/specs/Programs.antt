@@ -4,7 +4,7 @@ use Rattle.micro_ir.specs.declared.op.MicroOp.{MicroOp}
 use Rattle.micro_ir.specs.declared.op.MicroOp.TheVariants.{Window, Free}
 use Rattle.micro_ir.specs.Steps.{micros}
 use Rattle.micro_ir.specs.WorkRows.{active_row, mask_row, free_row}
-use Rattle.frame_laws.specs.Pieces.{splat, fill_step}
+use Rattle.micro_ir.specs.Pieces.{splat, fill_step}
 use Rattle.frame_laws.specs.Shapes.{Shape, Bounds, first_of}
 
 -- the active elements of register g
@@ -31,7 +31,7 @@ first_registers i b body (suc g) = first_registers i b body g ++ one_register i 
 
 -- the scalar into the scalar row, where the instruction has one
 abbrev pub splat_program : Shape → List MicroOp
-splat_program i = cond i.splat (micros i.width (splat i.width i.scalar)) []
+splat_program i = cond i.splat (micros i.scalar_width (splat i.scalar_width i.scalar)) []
 
 -- the program, of which `body g` computes register g of the group
 unfoldable pub program : Shape → Bounds → (body : ℕ → List MicroOp) → List MicroOp

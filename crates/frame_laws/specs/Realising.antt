@@ -1,5 +1,5 @@
 -- When a list of operations computes a register of a group: the operations between its windows and its fill.
-use Rattle.std.specs.Prelude.{◌≡◌, ◌≢◌, ℕ, ◌+◌, ◌*◌, ◌<◌, ◌≤◌, Bool, true, false, List}
+use Rattle.std.specs.Prelude.{◌≡◌, ◌≢◌, ℕ, ◌+◌, ◌*◌, ◌%◌, ◌<◌, ◌≤◌, Bool, true, false, List}
 use Rattle.bit_laws.specs.Numbers.{number, low, bit_of}
 use Rattle.bit_rows.specs.Slices.{Slices}
 use Rattle.steer_net.specs.Network.{bit_in, is_within}
@@ -11,7 +11,7 @@ use Rattle.frame_laws.specs.Shapes.{Shape, Bounds, element_number}
 
 -- each element of the scalar row is the scalar, where the instruction has one
 abbrev pub Splatted : Shape → Slices → Type 0
-Splatted i s = i.splat ≡ true → (k col j : ℕ) → k * i.width + i.width ≤ 32 → col < s.columns → j < i.width → element i.width k col s scalar_row j ≡ bit_of i.scalar j
+Splatted i s = i.splat ≡ true → (at : ℕ) → at < 32 * s.columns → bit_in s scalar_row at ≡ bit_of i.scalar (at % 32 % i.scalar_width)
 
 -- The windows of register g stand in their rows, at each of its elements.
 pub record Windowed (i : Shape) (b : Bounds) (g : ℕ) (s : Slices) : Type 0 where

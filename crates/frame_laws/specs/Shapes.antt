@@ -26,9 +26,10 @@ pub record Shape : Type 0 where
   pub vstart : ℕ
   pub from : ℕ
   pub len : ℕ
-  -- whether the program puts the scalar into the scalar row
+  -- whether the program puts the scalar into the scalar row, and the bits of each of its elements there
   pub splat : Bool
   pub scalar : ℕ
+  pub scalar_width : ℕ
   -- the value of an element: from the registers, the element's number and its mask bit
   pub result : Registers → ℕ → Bool → ℕ
 

@@ -9,7 +9,7 @@ use Rattle.micro_ir.specs.Steps.{micros}
 use Rattle.micro_ir.specs.WorkRows.{mask_row, free_row}
 use Rattle.micro_ir.proofs.Lists.{tally-append, no_counts-and, counts_and-none}
 use Rattle.micro_ir.proofs.StepLists.{tally-micros, length-micros}
-use Rattle.frame_laws.specs.Pieces.{fill_step}
+use Rattle.micro_ir.specs.Pieces.{fill_step}
 use Rattle.frame_laws.specs.Shapes.{Shape, Bounds, first_of}
 use Rattle.frame_laws.specs.Programs.{mask_window, splat_program}
 use Rattle.frame_laws.specs.Costs.{counts_times, fill_counts}

@@ -1,7 +1,7 @@
 -- The program of an instruction that makes a mask leaves the registers of its meaning.
 use Rattle.std.proofs.Common.{◌≡◌, ◌≢◌, ℕ, zero, suc, ◌+◌, ◌-◌, ◌*◌, ◌/◌, ◌%◌, ◌<◌, ◌≤◌, Bool, true, false, cond, ◌&&◌, ◌||◌, not, eqb, leb, ltb, List, [], ◌∷◌, ◌++◌, refl, sym, ◌∙◌, ap, arith, inl, inr, ⊎_elim}
 use Rattle.std.specs.Int.{from_bool}
-use Rattle.std.proofs.lemmas.Bool.{cases_lt, cases_Bool, cases_eq, eq-eqb, ne_eqb, lt-ltb, le-ltb, le-leb, false≢true}
+use Rattle.std.proofs.lemmas.Bool.{cases_lt, cases_Bool, cases_eq, eq-eqb, ne_eqb, lt-ltb, le-ltb, le-leb, ltb-true, and_parts, false≢true}
 use Rattle.bit_laws.specs.Numbers.{low, bit_of}
 use Rattle.bit_rows.specs.Slices.{Slices}
 use Rattle.steer_net.specs.Network.{bit_in, is_within, is_free, top_bit, packed}
@@ -12,7 +12,7 @@ use Rattle.micro_ir.specs.Steps.{micros}
 use Rattle.micro_ir.specs.WorkRows.{active_row, truth_row, free_row}
 use Rattle.micro_ir.proofs.Lists.{replay-append}
 use Rattle.micro_ir.proofs.Lift.{replay-columns, element-inside}
-use Rattle.frame_laws.specs.Pieces.{splat}
+use Rattle.micro_ir.specs.Pieces.{splat}
 use Rattle.frame_laws.specs.Shapes.{Shape, Bounds, Bounded, first_of}
 use Rattle.frame_laws.specs.Programs.{active_window, mask_window}
 use Rattle.frame_laws.specs.Meaning.{place_in, element_after, written, after}
@@ -37,6 +37,10 @@ truth_at i v e = bit_of (low 1 (i.result v e (v 0 e))) 0
 -- the element is in the window
 abbrev pub in_window : Shape → Bounds → Registers → ℕ → Bool
 in_window i b v e = is_within b.from i.len i.masked (v 0) e
+
+-- an element in the window may be computed
+below-len : (i : Shape) (b : Bounds) (v : Registers) (e : ℕ) → in_window i b v e ≡ true → e < i.len
+below-len i b v e t = ltb-true e i.len (and_parts (leb b.from e) (ltb e i.len) (and_parts (leb b.from e && ltb e i.len) (not i.masked || v 0 e) t).0).1
 
 -- The bits of the first g registers are written, in slices that held the registers v before, and the free ones are marked.
 pub record MaskHolds (i : Shape) (b : Bounds) (g : ℕ) (v : Registers) (s : Slices) : Type 0 where
@@ -132,7 +136,7 @@ next i b source columns g body v s legal cols lt told holds =
     let sources : SameAt (source g) i.vlen (bit_in s2) v =
     λ r at x h.
     let y = legal.sources g r lt x in
-    windows-bits i b g s r at y.0 ∙ holds.registers r at y.0 h
+    windows-bits i b g s r at (omega arith) (omega arith) ∙ holds.registers r at y.0 h
     ∙ ⊎_elim
     (λ (u : r ≡ i.vd). let z : g ≡ 0 = y.1 u in let f : first ≡ 0 = ap (first_of i) z ∙ omega arith in
     none_here (eqb r i.vd) (in_window i b v at) (truth_at i v at) (v r at) (ltb at first) (le-ltb at first (omega arith)))
@@ -155,7 +159,7 @@ next i b source columns g body v s legal cols lt told holds =
     let inside : col * n + k < i.vlen / w = rw place.per place.inside in
     free-top i b g w truth_row (col * n + k) s3 (omega arith) ∙ done.truth k col q l0 (seen e h0 (omega arith) ∙ t)
     ∙ ap (λ (c : Bool). bit_of (low 1 (i.result (bit_in s2) e c)) 0) (agrees e h0 (omega arith))
-    ∙ ap (λ (z : ℕ). bit_of (low 1 z) 0) (legal.reads_only g (bit_in s2) v (col * n + k) (v 0 e) lt inside sources) in
+    ∙ ap (λ (z : ℕ). bit_of (low 1 z) 0) (legal.reads_only g (bit_in s2) v (col * n + k) (v 0 e) lt inside (below-len i b v e t) sources) in
     let before : (at : ℕ) → at < 32 * s4.columns → bit_in s4 i.vd at ≡ cond (ltb at first && in_window i b v at) (truth_at i v at) (v i.vd at) =
     λ at h.
     let h0 = lower at h in
@@ -188,11 +192,10 @@ next i b source columns g body v s legal cols lt told holds =
           (λ (z : g ≢ 0).
           ap (λ (x : Slices). bit_in x free_row at) (free-later i b g s3 z) ∙ done.kept free_row at (inr refl) h0 ∙ holds.free (omega arith) ones at h)
           (cases_eq g 0);
-      scalar = λ t k col j q l h.
-          let l3 : col < s3.columns = rw cols3 (rw (sym cols4) l) in
+      scalar = λ t at l.
+          let l3 : at < 32 * s3.columns = rw cols3 (rw (sym cols4) l) in
           let u : 34 ≢ i.vd = omega arith in
-          element-inside w k col s5 34 j h
-          ∙ rw (ne_eqb 34 i.vd u) (free-rest i b g s3 (k * w + j) 34 col (omega arith) ∙ sym (element-inside w k col s3 34 j h) ∙ done.scalar t k col j q l3 h);
+          rw (ne_eqb 34 i.vd u) (free-rest i b g s3 (at % 32) 34 (at / 32) (omega arith) ∙ done.scalar t at l3);
     })
   where
     at_vd : (r d : ℕ) (x t : Bool) (f : ℕ → Bool) → r ≡ d → cond (eqb r d && x) t (f r) ≡ cond x t (f d)
@@ -285,13 +288,13 @@ mask_frame_law i b source body v s legal bounded told same r at x h =
     let last = mask_registers i b body i.registers ++ mask_fill i in
     ⊎_elim
     (λ (t : i.splat ≡ true).
-    let steps = micros i.width (splat i.width i.scalar) in
+    let steps = micros i.scalar_width (splat i.scalar_width i.scalar) in
     let s1 = replay steps s in
-    let start : MaskHolds i b 0 v s1 = none_held i b v s1 (splat-stands i s pos lanes) (λ r at x h. splat-bits i s pos lanes r at x (omega arith) ∙ same r at x h) in
+    let start : MaskHolds i b 0 v s1 = none_held i b v s1 (splat-stands i s legal.framed.scalar_width legal.framed.scalar_lanes) (λ r at x h. splat-bits i s legal.framed.scalar_width legal.framed.scalar_lanes r at x (omega arith) ∙ same r at x h) in
     ap (λ (c : Bool). bit_in (replay (cond c steps [] ++ last) s) r at) t
     ∙ ap (λ (z : Slices). bit_in z r at) (replay-append steps last s)
     ∙ rest i b source s.columns body v s1 legal (replay-columns steps s) bounded told start r at x h)
     (λ (f : i.splat ≡ false).
-    ap (λ (c : Bool). bit_in (replay (cond c (micros i.width (splat i.width i.scalar)) [] ++ last) s) r at) f
+    ap (λ (c : Bool). bit_in (replay (cond c (micros i.scalar_width (splat i.scalar_width i.scalar)) [] ++ last) s) r at) f
     ∙ rest i b source s.columns body v s legal refl bounded told (none_held i b v s (λ z. absurd (false≢true (sym f ∙ z))) same) r at x h)
     (cases_Bool i.splat)

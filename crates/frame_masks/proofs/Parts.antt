@@ -13,12 +13,12 @@ use Rattle.micro_ir.specs.Replay.{replay}
 use Rattle.micro_ir.specs.Steps.{element, steps_on, micros}
 use Rattle.micro_ir.proofs.Lift.{replay-columns, micros-element, element-inside}
 use Rattle.micro_ir.specs.WorkRows.{active_row, truth_row, free_row}
-use Rattle.frame_laws.specs.Pieces.{fill_step}
+use Rattle.micro_ir.specs.Pieces.{fill_step}
 use Rattle.frame_laws.specs.Shapes.{Shape, Bounds, element_number}
 use Rattle.frame_laws.specs.Realising.{Splatted}
 use Rattle.frame_laws.proofs.Elements.{in_element, bit_place}
 use Rattle.micro_ir.proofs.OneElement.{step-row, everywhere-here, everywhere-fits}
-use Rattle.frame_laws.proofs.Windows.{within_true, with_windows, windows-columns, windows-active, windows-mask, windows-rest, windows-stand, filled, nothing}
+use Rattle.frame_laws.proofs.Windows.{within_true, with_windows, windows-columns, windows-active, windows-mask, windows-rest, windows-bits, windows-stand, filled, nothing}
 use Rattle.frame_masks.specs.Programs.{free_of_mask, mask_fill}
 use Rattle.frame_masks.specs.Telling.{Told}
 
@@ -131,8 +131,8 @@ computed i b g body s pos lanes long told splatted =
     let cols2 : s2.columns ≡ s.columns = windows-columns i b g s in
     let cols3 : s3.columns ≡ s.columns = replay-columns body s2 ∙ cols2 in
     let long2 : i.vlen ≡ 32 * s2.columns = rw cols2 long in
-    let splatted2 : Splatted i s2 = λ t k col j q l h. let l0 : col < s.columns = rw (sym cols2) l in
-    windows-rest i b g k col s q l0 34 j (omega arith) (omega arith) h ∙ splatted t k col j q l0 h in
+    let splatted2 : Splatted i s2 = λ t at l. let l0 : at < 32 * s.columns = rw (sym cols2) l in
+    windows-bits i b g s 34 at (omega arith) (omega arith) ∙ splatted t at l0 in
     let tells = told s2 long2 splatted2 (windows-stand i b g s) in
     let top : w - 1 < w = omega arith in
     record {
@@ -147,9 +147,11 @@ computed i b g body s pos lanes long told splatted =
           let n : r ≢ 33 = ⊎_elim (λ (x : r < 32). omega arith) (λ (x : r ≡ free_row). omega arith) row in
           p3.bit ∙ (tells (at % 32 / w) (at / 32) p.fits c2).kept r (at % 32 % w) low p.below
           ∙ windows-rest i b g (at % 32 / w) (at / 32) s p.fits p.inside r (at % 32 % w) m n p.below ∙ sym p.bit;
-      scalar = λ t k col j q l h.
-          let l2 : col < s2.columns = rw (sym (replay-columns body s2)) l in
-          (tells k col q l2).kept 34 j (inl (omega arith)) h ∙ splatted2 t k col j q l2 h;
+      scalar = λ t at l.
+          let l2 : at < 32 * s2.columns = rw (sym (replay-columns body s2)) l in
+          let p2 = in_element w (32 / w) s2 34 at pos lanes l2 in
+          let p3 = in_element w (32 / w) s3 34 at pos lanes l in
+          p3.bit ∙ (tells (at % 32 / w) (at / 32) p2.fits p2.inside).kept 34 (at % 32 % w) (inl (omega arith)) p2.below ∙ sym p2.bit ∙ splatted2 t at l2;
       active = λ k col q l.
           let l2 : col < s2.columns = rw cols2 l in
           top-element w k col s3 active_row pos lanes q ∙ (tells k col q l2).kept 32 (w - 1) (inl (omega arith)) top ∙ windows-active i b g k col s q l (w - 1) top;

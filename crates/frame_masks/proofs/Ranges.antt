@@ -9,7 +9,7 @@ use Rattle.micro_ir.specs.Steps.{micros}
 use Rattle.micro_ir.specs.WorkRows.{mask_row, free_row}
 use Rattle.micro_ir.proofs.Lists.{AllInRange-append, AllInRange-none, AllInRange-one}
 use Rattle.micro_ir.proofs.StepLists.{AllInRange-micros}
-use Rattle.frame_laws.specs.Pieces.{splat, fill_step}
+use Rattle.micro_ir.specs.Pieces.{splat, fill_step}
 use Rattle.frame_laws.specs.Shapes.{Shape, Bounds, first_of}
 use Rattle.frame_laws.specs.Programs.{mask_window, splat_program}
 use Rattle.frame_masks.specs.Programs.{free_of_mask, pack_of, mask_register, mask_registers, mask_fill, mask_program}
@@ -86,8 +86,8 @@ range-fill i columns room =
 range-splat : (i : Shape) (columns : ℕ) → AllInRange columns (splat_program i)
 unfolding splat
 range-splat i columns =
-    elim i.splat as (λ x. AllInRange columns (cond x (micros i.width (splat i.width i.scalar)) [])) [
-      | true ↦ AllInRange-micros columns i.width (splat i.width i.scalar) (omega arith, omega arith, (omega arith, omega arith, tt))
+    elim i.splat as (λ x. AllInRange columns (cond x (micros i.scalar_width (splat i.scalar_width i.scalar)) [])) [
+      | true ↦ AllInRange-micros columns i.scalar_width (splat i.scalar_width i.scalar) (omega arith, omega arith, (omega arith, omega arith, tt))
       | false ↦ AllInRange-none columns
     ]
 

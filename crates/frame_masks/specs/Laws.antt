@@ -19,6 +19,9 @@ pub record MaskFramed (i : Shape) (columns : ℕ) : Type 0 where
   pub width : 0 < i.width
   pub lanes : 32 / i.width * i.width ≡ 32
   pub vlen : i.vlen ≡ 32 * columns
+  -- the scalar is splatted over whole elements
+  pub scalar_width : 0 < i.scalar_width
+  pub scalar_lanes : 32 / i.scalar_width * i.scalar_width ≡ 32
   -- each element of the groups has a mask bit
   pub numbers : i.registers ≤ i.width
   pub some : 0 < i.registers
@@ -31,8 +34,8 @@ pub record MaskLegal (i : Shape) (source : ℕ → ℕ → Bool) (columns : ℕ)
   pub framed : MaskFramed i columns
   -- the destination may be the first register of a group, which is read before it is written, and no other
   pub sources : (g r : ℕ) → g < i.registers → source g r ≡ true → (r < 32) × (r ≡ i.vd → g ≡ 0)
-  -- the results depend on them alone
-  pub reads_only : (g : ℕ) (u v : Registers) (p : ℕ) (c : Bool) → g < i.registers → p < i.vlen / i.width → SameAt (source g) i.vlen u v
+  -- the results of elements that may be computed depend on them alone
+  pub reads_only : (g : ℕ) (u v : Registers) (p : ℕ) (c : Bool) → g < i.registers → p < i.vlen / i.width → first_of i g + p < i.len → SameAt (source g) i.vlen u v
       → i.result u (first_of i g + p) c ≡ i.result v (first_of i g + p) c
 
 -- the list of each register tells its truths

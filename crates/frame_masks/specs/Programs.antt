@@ -6,7 +6,7 @@ use Rattle.micro_ir.specs.declared.op.MicroOp.{MicroOp}
 use Rattle.micro_ir.specs.declared.op.MicroOp.TheVariants.{Free, PackMask}
 use Rattle.micro_ir.specs.Steps.{micros}
 use Rattle.micro_ir.specs.WorkRows.{active_row, truth_row, free_row}
-use Rattle.frame_laws.specs.Pieces.{fill_step}
+use Rattle.micro_ir.specs.Pieces.{fill_step}
 use Rattle.frame_laws.specs.Shapes.{Shape, Bounds, first_of}
 use Rattle.frame_laws.specs.Programs.{active_window, mask_window, splat_program}
 

@@ -11,14 +11,14 @@ use Rattle.frame_laws.specs.Bytes as frame
 use Rattle.frame_meaning.specs.Shapes.{shape_of}
 use Rattle.frame_meaning.specs.Laws.{MeaningLaw, MaskMeaningLaw}
 
-module _ (c : Cfg) (i : Elementwise) (reads splat : Bool) (x : ℕ) (result : Registers → ℕ → Bool → ℕ) (v : List (List ℕ)) where
-  stays : (ones : Bool) (w old : ℕ) → old ≡ freed (ones && false) w old
-  stays true w old = refl
-  stays false w old = refl
+module _ (c : Cfg) (i : Elementwise) (reads splat : Bool) (x w : ℕ) (result : Registers → ℕ → Bool → ℕ) (v : List (List ℕ)) where
+  stays : (ones : Bool) (width old : ℕ) → old ≡ freed (ones && false) width old
+  stays true width old = refl
+  stays false width old = refl
 
   -- what becomes of an element at a place
   at_place : (e old : ℕ) (p : Place) → old ≡ old_element c i v e
-      → outcome (shape_of c i reads splat x result) (i.value v e) old p ≡ element_at_place c i v (is_ones c.policy) p e
+      → outcome (shape_of c i reads splat x w result) (i.value v e) old p ≡ element_at_place c i v (is_ones c.policy) p e
   at_place e old prestart same = same ∙ stays (is_ones c.policy) i.width (old_element c i v e)
   at_place e old active same = refl
   at_place e old masked_off same = ap (λ (z : ℕ). freed (is_ones c.policy && c.vtype.vma) i.width z) same
@@ -32,11 +32,11 @@ module _ (c : Cfg) (i : Elementwise) (reads splat : Bool) (x : ℕ) (result : Re
   old_bit e is_mask = sym (ap (λ (b : Bool). cond b (from_bool (mask_bit_of v i.vd e)) (element_of (c.vlen / 8) v i.vd i.width e)) is_mask)
 
   -- what an element becomes
-  number_after : (e : ℕ) → makes_mask i ≡ false → element_of_after (shape_of c i reads splat x result) (i.value v) v e ≡ element_after c i v (is_ones c.policy) e
+  number_after : (e : ℕ) → makes_mask i ≡ false → element_of_after (shape_of c i reads splat x w result) (i.value v) v e ≡ element_after c i v (is_ones c.policy) e
   unfolding element_of_after element_after
   number_after e not_mask = at_place e (element_of (c.vlen / 8) v i.vd i.width e) (place c i v e) (old_number e not_mask)
 
-  bit_after : (e : ℕ) → makes_mask i ≡ true → bit_of_after (shape_of c i reads splat x result) (i.value v) v e ≡ element_after c i v (is_ones c.policy) e
+  bit_after : (e : ℕ) → makes_mask i ≡ true → bit_of_after (shape_of c i reads splat x w result) (i.value v) v e ≡ element_after c i v (is_ones c.policy) e
   unfolding bit_of_after element_after
   bit_after e is_mask = at_place e (from_bool (mask_bit_of v i.vd e)) (place c i v e) (old_bit e is_mask)
 
@@ -46,21 +46,21 @@ module _ (c : Cfg) (i : Elementwise) (reads splat : Bool) (x : ℕ) (result : Re
   -- the registers
   chosen : (b : Bool) → makes_mask i ≡ b
       → registers_after c i v ≡ cond b (with_mask v i.vd (λ e. eqb (elements e) 1)) (with_elements (c.vlen / 8) v i.vd i.registers i.width elements)
-  unfolding registers_after registers_by elements
+  unfolding registers_by elements
   chosen b is = ap (λ (b : Bool). cond b (with_mask v i.vd (λ e. eqb (elements e) 1)) (with_elements (c.vlen / 8) v i.vd i.registers i.width elements)) is
 
-  pub of_elements : makes_mask i ≡ false → frame.registers_after (shape_of c i reads splat x result) (i.value v) v ≡ registers_after c i v
+  pub of_elements : makes_mask i ≡ false → frame.registers_after (shape_of c i reads splat x w result) (i.value v) v ≡ registers_after c i v
   unfolding elements
   of_elements not_mask =
       ap (λ (f : ℕ → ℕ). with_elements (c.vlen / 8) v i.vd i.registers i.width f) (λ n e. number_after e not_mask n) ∙ sym (chosen false not_mask)
 
-  pub of_bits : makes_mask i ≡ true → mask_after (shape_of c i reads splat x result) (i.value v) v ≡ registers_after c i v
+  pub of_bits : makes_mask i ≡ true → mask_after (shape_of c i reads splat x w result) (i.value v) v ≡ registers_after c i v
   unfolding elements
   of_bits is_mask =
       ap (λ (f : ℕ → ℕ). with_mask v i.vd (λ e. eqb (f e) 1)) (λ n e. bit_after e is_mask n) ∙ sym (chosen true is_mask)
 
 pub meaning_law : MeaningLaw
-meaning_law c i reads splat x result v not_mask = of_elements c i reads splat x result v not_mask
+meaning_law c i reads splat x w result v not_mask = of_elements c i reads splat x w result v not_mask
 
 pub mask_meaning_law : MaskMeaningLaw
-mask_meaning_law c i reads splat x result v is_mask = of_bits c i reads splat x result v is_mask
+mask_meaning_law c i reads splat x w result v is_mask = of_bits c i reads splat x w result v is_mask

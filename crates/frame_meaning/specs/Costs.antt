@@ -1,5 +1,5 @@
 -- What the programs of instructions cost, how long they are, and that a chain can run them.
-use Rattle.std.specs.Prelude.{◌≡◌, ℕ, ◌+◌, ◌*◌, ◌<◌, Bool, false, cond, List, length}
+use Rattle.std.specs.Prelude.{◌≡◌, ℕ, ◌+◌, ◌*◌, ◌<◌, Bool, cond, List, length}
 use Rattle.bit_rows.specs.Slices.{Slices}
 use Rattle.cam_chain.specs.ChainValue.{no_counts}
 use Rattle.cam_chain.specs.declared.counts.Counts.{Counts}
@@ -7,22 +7,19 @@ use Rattle.micro_ir.specs.declared.op.MicroOp.{MicroOp}
 use Rattle.micro_ir.specs.Replay.{AllInRange, counts_and, tally}
 use Rattle.rvv_decode.specs.declared.instruction.VInstr.{VInstr}
 use Rattle.vtype_cfg.specs.declared.configuration.Cfg.{Cfg}
-use Rattle.vtype_cfg.specs.Classes.{Class, plain, move, class_of}
-use Rattle.element_ops.specs.Values.{vmv}
+use Rattle.vtype_cfg.specs.Classes.{class_of}
 use Rattle.rvv_meaning.specs.Elementwise.{is_ones}
-use Rattle.rvv_meaning.specs.Arithmetic.{Operation, number_of, reads_mask}
+use Rattle.rvv_meaning.specs.Operations.{Operation, reads_mask}
 use Rattle.legal_groups.specs.Facts.{group_count}
 use Rattle.frame_laws.specs.Costs.{counts_times}
-use Rattle.micro_ir.specs.WorkRows.{IsOperandRow}
-use Rattle.frame_classes.specs.Plain.{Operands, Value, Kind}
-use Rattle.frame_meaning.specs.Shapes.{has_scalar, plain_operands, reversed_operands, move_operands, straight_value, reversed_value, two_operand_program}
+use Rattle.micro_ir.specs.Measures.{Measured as ListMeasured}
+use Rattle.frame_meaning.specs.declared.Order.{Order}
+use Rattle.frame_meaning.specs.Shapes.{has_scalar, class_in, program_in}
 use Rattle.frame_meaning.specs.Laws.{Runs}
 
--- A kind's lists count alike and are equally long wherever they stand, and a chain of any number of columns can run them.
-abbrev pub KindCosts : Kind → (each : Counts) → (long : ℕ) → Type 0
-KindCosts kind each long =
-    (a b addend to : ℕ) → IsOperandRow a → IsOperandRow b → IsOperandRow addend → to < 32
-    → (tally (kind a b addend to) ≡ each) × (length (kind a b addend to) ≡ long) × ((columns : ℕ) → AllInRange columns (kind a b addend to))
+-- The lists of the registers cost alike and are equally long, and a chain can run them.
+abbrev pub AllMeasured : (registers : ℕ) → (body : ℕ → List MicroOp) → (each : Counts) → (long : ℕ) → Type 0
+AllMeasured registers body each long = (g : ℕ) → g < registers → ListMeasured each long (body g)
 
 -- The searches, updates and passes of an instruction whose list for a register makes `each`: those that put its scalar into
 -- a row, and for each register those of its list and of the fill, where free elements become ones.
@@ -42,17 +39,9 @@ pub record Measured (i : VInstr) (c : Cfg) (s : Slices) (reads : Bool) (each : C
   pub count : length ops ≡ length_of i c reads long
   pub range : AllInRange s.columns ops
 
-abbrev pub Costs : Class → (VInstr → Operands) → (VInstr → Cfg → Operation → Value) → Operation → Type 0
-Costs class operands value o =
-    (i : VInstr) (c : Cfg) (x : ℕ) (kind : Kind) (s : Slices) (each : Counts) (long : ℕ)
-    → Runs i c s → class_of i.op ≡ class → KindCosts kind each long
-    → Measured i c s (reads_mask i o) each long (two_operand_program i c x (operands i) o (value i c o) kind)
-
-abbrev pub PlainCostLaw : Type 0
-PlainCostLaw = (o : Operation) → o.makes_mask ≡ false → Costs plain plain_operands straight_value o
-
-abbrev pub ReversedCostLaw : Type 0
-ReversedCostLaw = (o : Operation) → o.makes_mask ≡ false → Costs plain reversed_operands reversed_value o
-
-abbrev pub MoveCostLaw : Type 0
-MoveCostLaw = Costs move move_operands straight_value (number_of vmv)
+-- what the program of an instruction costs whose operands are groups of elements of SEW bits, from lists that cost so much
+abbrev pub ElementsCostLaw : Type 0
+ElementsCostLaw =
+    (order : Order) (o : Operation) (i : VInstr) (c : Cfg) (x : ℕ) (body : ℕ → List MicroOp) (s : Slices) (each : Counts) (long : ℕ)
+    → Runs i c s → class_of i.op ≡ class_in order → AllMeasured (group_count c.vtype) body each long
+    → Measured i c s (reads_mask i o) each long (program_in order i c x o body)

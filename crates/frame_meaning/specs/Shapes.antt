@@ -1,23 +1,28 @@
 -- The shapes of instructions under a configuration.
-use Rattle.std.specs.Prelude.{ℕ, Bool, true, false, ◌&&◌, ◌||◌, List}
+use Rattle.std.specs.Prelude.{ℕ, Bool, true, false, cond, ◌&&◌, ◌||◌, List}
 use lib.Dec.{ltb}
+use Rattle.bit_laws.specs.Signed.{extended}
 use Rattle.element_ops.specs.Elements.{Registers}
 use Rattle.micro_ir.specs.declared.op.MicroOp.{MicroOp}
 use Rattle.rvv_decode.specs.declared.instruction.VInstr.{VInstr}
 use Rattle.rvv_decode.specs.declared.instruction.Form.{Form}
 use Rattle.rvv_decode.specs.declared.instruction.Form.TheVariants.{V, X, I}
 use Rattle.vtype_cfg.specs.declared.configuration.Cfg.{Cfg}
+use Rattle.vtype_cfg.specs.Classes.{Class, plain, move, Row, row, nothing, group as group_place}
 use Rattle.rvv_meaning.specs.Elementwise.{Elementwise, makes_mask, is_ones}
-use Rattle.rvv_meaning.specs.Arithmetic.{Operation, reads_mask, signed_immediate, on_elements}
+use Rattle.rvv_meaning.specs.Operations.{Operation, reads_mask, immediate_bits, elements_at}
+use Rattle.legal_groups.specs.Facts.{group_count}
 use Rattle.frame_laws.specs.Shapes.{Shape, usual_bounds}
 use Rattle.frame_laws.specs.Programs.{program}
 use Rattle.frame_classes.specs.Operands.{Operand, group, scalar}
-use Rattle.frame_classes.specs.Plain.{Operands, Value, Kind, plain_result, plain_body}
+use Rattle.frame_classes.specs.Plain.{Operands, Value, plain_result}
+use Rattle.frame_meaning.specs.declared.Order.{Order}
+use Rattle.frame_meaning.specs.declared.Order.TheVariants.{Straight, Reversed, Second}
 
 -- The shape of an instruction that writes elements. The program needs besides whether the mask is an operand, the scalar
--- where there is one, and the results as numbers of bits.
-abbrev pub shape_of : Cfg → Elementwise → (reads splat : Bool) → (x : ℕ) → (result : Registers → ℕ → Bool → ℕ) → Shape
-shape_of c i reads splat x result = record {
+-- where there is one, with the bits of its elements, and the results as numbers of bits.
+abbrev pub shape_of : Cfg → Elementwise → (reads splat : Bool) → (x scalar_width : ℕ) → (result : Registers → ℕ → Bool → ℕ) → Shape
+shape_of c i reads splat x scalar_width result = record {
   width = i.width;
   vlen = c.vlen;
   registers = i.registers;
@@ -32,10 +37,11 @@ shape_of c i reads splat x result = record {
   len = i.len;
   splat = splat;
   scalar = x;
+  scalar_width = scalar_width;
   result = result;
 }
 
--- ---- plain instructions, whose second operand has three forms
+-- ---- the second operand, which has three forms
 
 -- the operand in the place of vs1: the group that it names, or the scalar's row
 abbrev pub operand_in : Form → (vs1 : ℕ) → Operand
@@ -49,38 +55,50 @@ has_scalar V = false
 has_scalar X = true
 has_scalar I = true
 
-abbrev pub scalar_in : Form → (w vs1 x : ℕ) → ℕ
-scalar_in V w vs1 x = 0
-scalar_in X w vs1 x = x
-scalar_in I w vs1 x = signed_immediate w vs1
-
--- the operands of a plain instruction; of one that takes them in reversed order; and of a move, which has no vs2
-abbrev pub plain_operands : VInstr → Operands
-plain_operands i = record { a = group i.vs2; b = operand_in i.form i.vs1; addend = group i.vd }
-
-abbrev pub reversed_operands : VInstr → Operands
-reversed_operands i = record { a = operand_in i.form i.vs1; b = group i.vs2; addend = group i.vd }
-
-abbrev pub move_operands : VInstr → Operands
-move_operands i = record { a = group i.vd; b = operand_in i.form i.vs1; addend = group i.vd }
-
--- the value of an operation, from the operands at their places and the mask bit, and where they are in reversed order
-abbrev pub straight_value : VInstr → Cfg → Operation → Value
-straight_value i c o a b addend m = o.value c.vtype.sew a b (reads_mask i o && m)
-
-abbrev pub reversed_value : VInstr → Cfg → Operation → Value
-reversed_value i c o a b addend m = o.value c.vtype.sew b a (reads_mask i o && m)
+abbrev pub scalar_in : Form → (signed : Bool) → (w vs1 x : ℕ) → ℕ
+scalar_in V signed w vs1 x = 0
+scalar_in X signed w vs1 x = x
+scalar_in I signed w vs1 x = extended signed immediate_bits w vs1
 
 -- the number in the scalar's row
-abbrev pub scalar_of : VInstr → Cfg → (x : ℕ) → ℕ
-scalar_of i c x = scalar_in i.form c.vtype.sew i.vs1 x
+abbrev pub scalar_of : VInstr → Cfg → (x : ℕ) → (signed : Bool) → ℕ
+scalar_of i c x signed = scalar_in i.form signed c.vtype.sew i.vs1 x
 
--- the shape of an instruction with this operation, these operands and their value
-unfoldable pub two_operand_shape : VInstr → Cfg → (x : ℕ) → Operands → Operation → Value → Shape
-two_operand_shape i c x with o value =
-    shape_of c (on_elements i c x o) (reads_mask i o) (has_scalar i.form) (scalar_of i c x) (plain_result c.vlen c.vtype.sew (scalar_of i c x) with value)
+-- ---- instructions whose operands are groups of elements of SEW bits
 
--- its program, from the list of its kind
-unfoldable pub two_operand_program : VInstr → Cfg → (x : ℕ) → Operands → Operation → Value → Kind → List MicroOp
-two_operand_program i c x with o value kind =
-    program (two_operand_shape i c x with o value) (usual_bounds (two_operand_shape i c x with o value)) (plain_body (two_operand_shape i c x with o value) with kind)
+-- the places of the operands, and the class of the instructions
+abbrev pub row_in : Order → (sew : ℕ) → Row
+row_in Straight sew = row (group_place sew) (group_place sew) (group_place sew)
+row_in Reversed sew = row (group_place sew) (group_place sew) (group_place sew)
+row_in Second sew = row (group_place sew) nothing (group_place sew)
+
+abbrev pub class_in : Order → Class
+class_in Straight = plain
+class_in Reversed = plain
+class_in Second = move
+
+-- the operands as the list takes them; a third one is the destination as it was
+abbrev pub operands_in : Order → VInstr → Operands
+operands_in Straight i = record { a = group i.vs2; b = operand_in i.form i.vs1; addend = group i.vd }
+operands_in Reversed i = record { a = operand_in i.form i.vs1; b = group i.vs2; addend = group i.vd }
+operands_in Second i = record { a = group i.vd; b = operand_in i.form i.vs1; addend = group i.vd }
+
+-- the value of an operation, from the list's operands and the mask bit
+abbrev pub value_in : Order → VInstr → Cfg → Operation → Value
+value_in Straight i c o a b addend m = o.value c.vtype.sew c.vxrm a b (cond o.takes_old addend 0) (reads_mask i o && m)
+value_in Reversed i c o a b addend m = o.value c.vtype.sew c.vxrm b a (cond o.takes_old addend 0) (reads_mask i o && m)
+value_in Second i c o a b addend m = o.value c.vtype.sew c.vxrm a b (cond o.takes_old addend 0) (reads_mask i o && m)
+
+-- what the instruction writes: elements of SEW bits, in as many registers as LMUL says
+unfoldable pub elements_in : Order → VInstr → Cfg → (x : ℕ) → Operation → Elementwise
+elements_in order i c x o = record (elements_at i c x (row_in order c.vtype.sew) o) { registers = group_count c.vtype; width = c.vtype.sew }
+
+-- its shape
+unfoldable pub shape_in : Order → VInstr → Cfg → (x : ℕ) → Operation → Shape
+shape_in order i c x o =
+    shape_of c (elements_in order i c x o) (reads_mask i o) (has_scalar i.form) (scalar_of i c x o.signed_immediate) c.vtype.sew
+    (plain_result c.vlen c.vtype.sew (scalar_of i c x o.signed_immediate) (operands_in order i) (value_in order i c o))
+
+-- its program, from the lists of its registers
+unfoldable pub program_in : Order → VInstr → Cfg → (x : ℕ) → Operation → (body : ℕ → List MicroOp) → List MicroOp
+program_in order i c x o body = program (shape_in order i c x o) (usual_bounds (shape_in order i c x o)) body

@@ -2,9 +2,18 @@
 //! registers that they mean. It holds no code that runs; each function here is a law.
 #![tactic(auto)]
 
-ghost use Rattle.frame_meaning.specs.Costs.{PlainCostLaw, ReversedCostLaw, MoveCostLaw};
-ghost use Rattle.frame_meaning.specs.Laws.{MeaningLaw, MaskMeaningLaw, PlainMeaningLaw, ReversedMeaningLaw, MoveMeaningLaw};
+ghost use Rattle.frame_meaning.specs.Costs.{ElementsCostLaw};
+ghost use Rattle.frame_meaning.specs.Laws.{MeaningLaw, MaskMeaningLaw, ElementsMeaningLaw};
 ghost use Rattle.frame_meaning.specs.Masks.{CompareMeaningLaw, CompareCostLaw};
+
+/// How a list takes the operands of an instruction: that of vs2 first and then that in the place of vs1; these two in
+/// reversed order; or that in the place of vs1 alone.
+#[derive(Clone, Copy, Debug, PartialEq, Eq)]
+pub enum Order {
+    Straight,
+    Reversed,
+    Second,
+}
 
 /// The registers of the frame are those of the meaning.
 pub fn meaning_law()
@@ -16,34 +25,14 @@ pub fn mask_meaning_law()
     ensures law { MaskMeaningLaw }
 {}
 
-/// The program of a legal plain instruction leaves the registers that it means.
-pub fn plain_meaning_law()
-    ensures law { PlainMeaningLaw }
+/// The program of a legal instruction whose operands are groups of elements of SEW bits leaves the registers that it means.
+pub fn elements_meaning_law()
+    ensures law { ElementsMeaningLaw }
 {}
 
-/// The same where the list of its kind takes the operands in reversed order.
-pub fn reversed_meaning_law()
-    ensures law { ReversedMeaningLaw }
-{}
-
-/// The program of a legal move leaves the registers that it means.
-pub fn move_meaning_law()
-    ensures law { MoveMeaningLaw }
-{}
-
-/// What the program of a legal plain instruction costs, and that a chain can run it.
-pub fn plain_cost_law()
-    ensures law { PlainCostLaw }
-{}
-
-/// The same where the list of its kind takes the operands in reversed order.
-pub fn reversed_cost_law()
-    ensures law { ReversedCostLaw }
-{}
-
-/// The same of a legal move.
-pub fn move_cost_law()
-    ensures law { MoveCostLaw }
+/// What the program of such an instruction costs, and that a chain can run it.
+pub fn elements_cost_law()
+    ensures law { ElementsCostLaw }
 {}
 
 /// The program of a legal comparison, or carry out, leaves the registers that it means.

@@ -6,17 +6,18 @@ use Rattle.micro_ir.specs.Steps.{Step, fires, step_on, steps_on, AllFit}
 use Rattle.micro_ir.proofs.StepLists.{steps_on-append, AllFit-append}
 use Rattle.micro_ir.specs.WorkRows.{result_row}
 use Rattle.micro_ir.specs.Pieces.{everywhere, clear, commit}
-use Rattle.frame_laws.specs.Kinds.{Writes}
+use Rattle.micro_ir.specs.Kinds.{Writes}
 use Rattle.micro_ir.proofs.OneElement.{fires-hit, step-row, clear-here, everywhere-here, everywhere-fits, commit-fits}
 use Rattle.micro_ir.specs.WorkRows.{carry_row, truth_row}
 use Rattle.micro_ir.specs.Pieces.{downs}
 use Rattle.gen_arith.specs.Recipes.{operands, values_of, Compare, truth_steps, first_on, second_on, choice_steps, ltu, lt}
-use Rattle.element_ops.specs.Values.{signed}
+use Rattle.bit_laws.specs.Signed.{signed}
 use Rattle.gen_arith.specs.Laws.{Apart, ChoiceNumbers}
 use Rattle.micro_ir.proofs.Effects.{downs-row, downs-here, downs-fit}
 use Rattle.gen_arith.proofs.Rows.{finds, Folds, folds, found}
 use Rattle.gen_arith.proofs.Numbers.{low-top}
-use Rattle.gen_arith.proofs.Sums.{commit-writes, lifted, most_not-folds}
+use Rattle.micro_ir.proofs.Committed.{commit-writes, lifted}
+use Rattle.gen_arith.proofs.Sums.{most_not-folds}
 use Rattle.gen_arith.proofs.Truths.{truth_of, told, truth-fits, ltu-is, lt-is, borrow-folds}
 
 -- ---- the choice

@@ -12,7 +12,8 @@ use Rattle.micro_ir.specs.Pieces.{everywhere, clear, commit}
 use Rattle.micro_ir.specs.WorkRows.{carry_row, truth_row}
 use Rattle.micro_ir.specs.Pieces.{above, downs}
 use Rattle.gen_arith.specs.Recipes.{once, operands, values_of, digit, ripple, Sum, sum_steps, add, sub, adc, sbc, Compare, truth_steps, madc, madc_in, msbc, msbc_in, eq, ne, ltu, lt, leu, le, gtu, gt, first_on, second_on, choice_steps}
-use Rattle.gen_arith.specs.Laws.{counts, Measured, SumMeasured, TruthMeasured, ChoiceMeasured}
+use Rattle.micro_ir.specs.Measures.{counts, Measured}
+use Rattle.gen_arith.specs.Laws.{operations_in, SumMeasured, TruthMeasured, ChoiceMeasured}
 
 pub counts-same : (a b c x y z : ℕ) → a ≡ x → b ≡ y → c ≡ z → counts a b c ≡ counts x y z
 counts-same a b c x y z p q r = λ i. counts (p i) (q i) (r i)
@@ -49,11 +50,11 @@ near-length [] h = refl
 near-length (step ∷ steps) h = omega (arith, near-step step step.on h.1, near-length steps h.2)
 
 -- a list of such steps, by their counts
-pub measured : (w : ℕ) (steps : List Step) (all : Counts) → Near steps → steps_counts steps ≡ all → Measured all (micros w steps)
+pub measured : (w : ℕ) (steps : List Step) (all : Counts) → Near steps → steps_counts steps ≡ all → Measured all (operations_in all) (micros w steps)
 measured w steps all near e =
     record {
       cost = tally-micros w steps ∙ e;
-      long = length-micros w steps ∙ near-length steps near ∙ ap (λ (c : Counts). c.searches + c.updates + c.passes) e;
+      count = length-micros w steps ∙ near-length steps near ∙ ap (λ (c : Counts). c.searches + c.updates + c.passes) e;
       range = λ columns. AllInRange-micros columns w steps (near-rows steps near);
     }
 

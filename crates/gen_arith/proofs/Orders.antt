@@ -5,8 +5,8 @@ use Rattle.std.proofs.lemmas.Nat.{mod-mul-add}
 use Rattle.std.proofs.lemmas.Bool.{cases_lt, cases_eq, lt-ltb, le-ltb, le-leb, lt-leb, eq-eqb, ne_eqb}
 use Rattle.bit_laws.specs.Numbers.{number, low}
 use Rattle.bit_laws.proofs.Numbers.{number-lt}
-use Rattle.element_ops.specs.Values.{signed}
-use Rattle.element_ops.proofs.Signed.{signed-order, signed-most}
+use Rattle.bit_laws.specs.Signed.{signed}
+use Rattle.bit_laws.proofs.Signed.{signed-order, signed-most}
 use Rattle.gen_arith.specs.Recipes.{most_on, most_not_on, borrow_on, unlike_on, alike_on, at_most_on, at_most_signed_on}
 use Rattle.gen_arith.proofs.Rows.{finds, carried}
 

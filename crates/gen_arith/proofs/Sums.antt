@@ -8,7 +8,8 @@ use Rattle.micro_ir.proofs.Lift.{micros-element}
 use Rattle.micro_ir.proofs.StepLists.{steps_on-append, AllFit-append}
 use Rattle.micro_ir.specs.WorkRows.{active_row, mask_row, scalar_row, result_row}
 use Rattle.micro_ir.specs.Pieces.{clear, commit}
-use Rattle.frame_laws.specs.Kinds.{Writes, Realises}
+use Rattle.micro_ir.specs.Kinds.{Writes, Realises}
+use Rattle.micro_ir.proofs.Committed.{commit-writes, lifted}
 use Rattle.micro_ir.proofs.OneElement.{hit, fires-hit, step-row, clear-here, commit-here, commit-row, everywhere-fits, commit-fits, above-else, above-here, above-fits}
 use Rattle.micro_ir.specs.WorkRows.{carry_row}
 use Rattle.micro_ir.specs.Pieces.{above}
@@ -17,26 +18,6 @@ use Rattle.gen_arith.specs.Laws.{Apart, SumNumbers, CarriedNumbers}
 use Rattle.gen_arith.proofs.Ripple.{or_no, bits_in, same_inputs, rippled, ripple-fits}
 use Rattle.gen_arith.proofs.Rows.{finds, carried, Folds, folds, found, carries-carried, apart-operands}
 use Rattle.gen_arith.proofs.Numbers.{sum_digits, adder, difference_digits, subtracter, low-top}
-
--- A list that leaves the value in a work row, and then commits it (this belongs to frame_laws).
-pub commit-writes : (w row to : ℕ) (reads : Bool) (value : (ℕ → ℕ) → Bool → ℕ) (e mid : ℕ → ℕ → Bool) → row ≢ to → to < 32
-    → ((c : Bool) → (reads ≡ true → (j : ℕ) → j < w → e mask_row j ≡ c) → number w (mid row) ≡ low w (value (λ r. number w (e r)) c))
-    → ((r j : ℕ) → r ≤ scalar_row → j < w → mid r j ≡ e r j)
-    → Writes w to reads value e (steps_on (commit w row to) mid)
-commit-writes w row to reads value e mid other register is kept =
-    let passive : to ≢ active_row = omega arith in
-    record {
-      active = λ a c mask. number-same w (steps_on (commit w row to) mid to) (mid row)
-          (λ j inside. commit-here w row to mid j other passive inside ∙ rw (kept active_row j (omega arith) inside, a j inside) refl) ∙ is c mask;
-      idle = λ a j inside. commit-here w row to mid j other passive inside ∙ rw (kept active_row j (omega arith) inside, a j inside) (kept to j (omega arith) inside);
-      kept = λ r j low apart inside. commit-row w row to mid r j apart ∙ kept r j low inside;
-    }
-
--- from one element to all of them (this belongs to frame_laws)
-pub lifted : (w to : ℕ) (reads : Bool) (value : (ℕ → ℕ) → Bool → ℕ) (steps : List Step) → AllFit w steps
-    → ((e : ℕ → ℕ → Bool) → Writes w to reads value e (steps_on steps e)) → Realises w to reads value (micros w steps)
-unfolding Realises
-lifted w to reads value steps fits writes s k col inside column = rw (micros-element w k col steps s fits inside column) (writes (element w k col s))
 
 -- the carry into the lowest bit
 abbrev pub first_of : (from on : List ℕ) (e : ℕ → ℕ → Bool) → Bool

@@ -11,8 +11,8 @@ use Rattle.micro_ir.proofs.OneElement.{hit, fires-hit, step-row, clear-here, eve
 use Rattle.micro_ir.specs.WorkRows.{carry_row, truth_row}
 use Rattle.micro_ir.specs.Pieces.{above}
 use Rattle.gen_arith.specs.Recipes.{operands, values_of, ripple, Compare, truth_steps, most_on, most_not_on, borrow_on, unlike_on, alike_on, at_most_on, at_most_signed_on, madc, madc_in, msbc, msbc_in, eq, ne, ltu, lt, leu, le, gtu, gt}
-use Rattle.frame_laws.specs.Kinds.{Tells}
-use Rattle.element_ops.specs.Values.{signed}
+use Rattle.micro_ir.specs.Kinds.{Tells}
+use Rattle.bit_laws.specs.Signed.{signed}
 use Rattle.gen_arith.specs.Laws.{Apart, TruthNumbers, CarriedTruths}
 use Rattle.gen_arith.proofs.Ripple.{or_no, bits_in, same_inputs, rippled, carry-out, ripple-fits}
 use Rattle.gen_arith.proofs.Rows.{finds, carried, Folds, folds, found, carries-carried, apart-operands}

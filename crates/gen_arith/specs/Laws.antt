@@ -1,14 +1,13 @@
 -- The lists realise their kinds, and what they cost.
 use Rattle.std.specs.Prelude.{◌≡◌, ◌≢◌, ℕ, ◌+◌, ◌<◌, Bool, true, List, [], ◌∷◌, length}
 use Rattle.cam_chain.specs.declared.counts.Counts.{Counts}
-use Rattle.micro_ir.specs.declared.op.MicroOp.{MicroOp}
-use Rattle.micro_ir.specs.Replay.{AllInRange, tally}
+use Rattle.micro_ir.specs.Measures.{Measured}
 use Rattle.micro_ir.specs.Steps.{micros}
 use Rattle.micro_ir.specs.WorkRows.{result_row}
-use Rattle.frame_laws.specs.Kinds.{Realises}
+use Rattle.micro_ir.specs.Kinds.{Realises}
 use Rattle.micro_ir.specs.WorkRows.{carry_row, truth_row}
 use Rattle.gen_arith.specs.Recipes.{Sum, sum_steps, Compare, truth_steps, choice_steps}
-use Rattle.frame_laws.specs.Kinds.{Tells}
+use Rattle.micro_ir.specs.Kinds.{Tells}
 
 -- no row of the list is one of these two
 abbrev pub Apart : (c d : ℕ) → List ℕ → Type 0
@@ -27,18 +26,12 @@ CarriedNumbers k value =
     (w a b to : ℕ) → 0 < w → Apart carry_row result_row (a ∷ b ∷ []) → to < 32
     → Realises w to true (λ n c. value w (n a) (n b) c) (micros w (sum_steps k w a b to))
 
-abbrev pub counts : (searches updates passes : ℕ) → Counts
-counts searches updates passes = record { searches = searches; updates = updates; passes = passes }
-
--- What a list costs; how many operations it has, of which each is a search, an update or a pass by one subarray; and that
--- a chain of any number of columns can run it.
-pub record Measured (all : Counts) (ops : List MicroOp) : Type 0 where
-  pub cost : tally ops ≡ all
-  pub long : length ops ≡ all.searches + all.updates + all.passes
-  pub range : (columns : ℕ) → AllInRange columns ops
+-- Each search, each update and each pass of these lists, which is by one subarray, is one operation.
+abbrev pub operations_in : Counts → ℕ
+operations_in c = c.searches + c.updates + c.passes
 
 abbrev pub SumMeasured : Sum → (ℕ → Counts) → Type 0
-SumMeasured k all = (w a b to : ℕ) → 0 < w → to < 32 → Measured (all w) (micros w (sum_steps k w a b to))
+SumMeasured k all = (w a b to : ℕ) → 0 < w → to < 32 → Measured (all w) (operations_in (all w)) (micros w (sum_steps k w a b to))
 
 -- The comparison's list tells a truth at every width.
 abbrev pub TruthNumbers : Compare → (truth : (w a b : ℕ) → Bool) → Type 0
@@ -51,7 +44,7 @@ CarriedTruths k truth =
     (w a b : ℕ) → 0 < w → Apart carry_row truth_row (a ∷ b ∷ []) → Tells w true (λ n c. truth w (n a) (n b) c) (micros w (truth_steps k w a b))
 
 abbrev pub TruthMeasured : Compare → (ℕ → Counts) → Type 0
-TruthMeasured k all = (w a b : ℕ) → 0 < w → Measured (all w) (micros w (truth_steps k w a b))
+TruthMeasured k all = (w a b : ℕ) → 0 < w → Measured (all w) (operations_in (all w)) (micros w (truth_steps k w a b))
 
 -- The list that chooses one of two realises a kind at every width.
 abbrev pub ChoiceNumbers : Compare → (on : List ℕ) → (value : (w a b : ℕ) → ℕ) → Type 0
@@ -60,4 +53,4 @@ ChoiceNumbers k on value =
     → Realises w to reads (λ n c. value w (n a) (n b)) (micros w (choice_steps k on w a b to))
 
 abbrev pub ChoiceMeasured : Compare → (on : List ℕ) → (ℕ → Counts) → Type 0
-ChoiceMeasured k on all = (w a b to : ℕ) → 0 < w → to < 32 → Measured (all w) (micros w (choice_steps k on w a b to))
+ChoiceMeasured k on all = (w a b to : ℕ) → 0 < w → to < 32 → Measured (all w) (operations_in (all w)) (micros w (choice_steps k on w a b to))

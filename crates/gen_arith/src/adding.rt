@@ -1,11 +1,10 @@
 // Sums and differences of two rows.
 ghost use Rattle.std.specs.Prelude.{◌≡◌, Bool, ◌+◌, ◌-◌, ◌*◌, ◌^◌, ◌<◌, ◌≤◌, true, ◌++◌, length};
 ghost use Rattle.std.specs.Int.{from_bool};
-ghost use Rattle.frame_laws.specs.Kinds.{Realises};
-ghost use Rattle.micro_ir.specs.Replay.{tally};
+ghost use Rattle.micro_ir.specs.Kinds.{Realises};
 ghost use Rattle.micro_ir.specs.Steps.{micros};
 ghost use Rattle.micro_ir.specs.WorkRows.{IsOperandRow};
-ghost use Rattle.gen_arith.specs.Laws.{counts};
+ghost use Rattle.micro_ir.specs.Measures.{counts, Measured};
 ghost use Rattle.gen_arith.specs.Recipes.{sum_steps, add, sub, adc, sbc};
 ghost use Rattle.gen_arith.specs.Starts.{start_count, sum_of};
 
@@ -52,7 +51,7 @@ pub fn emit_add<W: Width>(buf: &mut MicroBuf, at: &Place)
     ensures ops { buf.new.ops ≡ buf.old.ops ++ micros W.BITS (sum_steps add W.BITS at.now.a at.now.b at.now.to) }
     ensures spare { buf.new.spare + (11 * W.BITS + 2) ≡ buf.old.spare }
     ensures realises { (reads : Bool) → Realises W.BITS at.now.to reads (λ n c. n at.now.a + n at.now.b) (micros W.BITS (sum_steps add W.BITS at.now.a at.now.b at.now.to)) }
-    ensures cost { tally (micros W.BITS (sum_steps add W.BITS at.now.a at.now.b at.now.to)) ≡ counts (8 * W.BITS) (2 * W.BITS + 3) (W.BITS - 1) }
+    ensures cost { Measured (counts (8 * W.BITS) (2 * W.BITS + 3) (W.BITS - 1)) (11 * W.BITS + 2) (micros W.BITS (sum_steps add W.BITS at.now.a at.now.b at.now.to)) }
 {
     emit_sum::<W>(buf, at, Start::Zero, &ODD, &MOST);
 }
@@ -67,7 +66,7 @@ pub fn emit_sub<W: Width>(buf: &mut MicroBuf, at: &Place)
     ensures ops { buf.new.ops ≡ buf.old.ops ++ micros W.BITS (sum_steps sub W.BITS at.now.a at.now.b at.now.to) }
     ensures spare { buf.new.spare + (11 * W.BITS + 4) ≡ buf.old.spare }
     ensures realises { (reads : Bool) → Realises W.BITS at.now.to reads (λ n c. n at.now.a + (2 ^ W.BITS - n at.now.b)) (micros W.BITS (sum_steps sub W.BITS at.now.a at.now.b at.now.to)) }
-    ensures cost { tally (micros W.BITS (sum_steps sub W.BITS at.now.a at.now.b at.now.to)) ≡ counts (8 * W.BITS + 1) (2 * W.BITS + 4) (W.BITS - 1) }
+    ensures cost { Measured (counts (8 * W.BITS + 1) (2 * W.BITS + 4) (W.BITS - 1)) (11 * W.BITS + 4) (micros W.BITS (sum_steps sub W.BITS at.now.a at.now.b at.now.to)) }
 {
     emit_sum::<W>(buf, at, Start::One, &ODD_NOT, &MOST_NOT);
 }
@@ -82,7 +81,7 @@ pub fn emit_adc<W: Width>(buf: &mut MicroBuf, at: &Place)
     ensures ops { buf.new.ops ≡ buf.old.ops ++ micros W.BITS (sum_steps adc W.BITS at.now.a at.now.b at.now.to) }
     ensures spare { buf.new.spare + (11 * W.BITS + 4) ≡ buf.old.spare }
     ensures realises { Realises W.BITS at.now.to true (λ n c. n at.now.a + n at.now.b + from_bool c) (micros W.BITS (sum_steps adc W.BITS at.now.a at.now.b at.now.to)) }
-    ensures cost { tally (micros W.BITS (sum_steps adc W.BITS at.now.a at.now.b at.now.to)) ≡ counts (8 * W.BITS + 1) (2 * W.BITS + 4) (W.BITS - 1) }
+    ensures cost { Measured (counts (8 * W.BITS + 1) (2 * W.BITS + 4) (W.BITS - 1)) (11 * W.BITS + 4) (micros W.BITS (sum_steps adc W.BITS at.now.a at.now.b at.now.to)) }
 {
     emit_sum::<W>(buf, at, Start::Mask, &ODD, &MOST);
 }
@@ -97,7 +96,7 @@ pub fn emit_sbc<W: Width>(buf: &mut MicroBuf, at: &Place)
     ensures ops { buf.new.ops ≡ buf.old.ops ++ micros W.BITS (sum_steps sbc W.BITS at.now.a at.now.b at.now.to) }
     ensures spare { buf.new.spare + (11 * W.BITS + 4) ≡ buf.old.spare }
     ensures realises { Realises W.BITS at.now.to true (λ n c. n at.now.a + (2 ^ W.BITS - (n at.now.b + from_bool c))) (micros W.BITS (sum_steps sbc W.BITS at.now.a at.now.b at.now.to)) }
-    ensures cost { tally (micros W.BITS (sum_steps sbc W.BITS at.now.a at.now.b at.now.to)) ≡ counts (8 * W.BITS + 1) (2 * W.BITS + 4) (W.BITS - 1) }
+    ensures cost { Measured (counts (8 * W.BITS + 1) (2 * W.BITS + 4) (W.BITS - 1)) (11 * W.BITS + 4) (micros W.BITS (sum_steps sbc W.BITS at.now.a at.now.b at.now.to)) }
 {
     emit_sum::<W>(buf, at, Start::NotMask, &ODD_NOT, &MOST_NOT);
 }

@@ -1,16 +1,15 @@
 // The lesser and the greater of two rows.
 ghost use Rattle.std.specs.Prelude.{◌≡◌, ℕ, Bool, ◌+◌, ◌-◌, ◌*◌, ◌<◌, ◌≤◌, cond, int_lt, true, [], ◌∷◌, ◌++◌, length};
 ghost use lib.Dec.{ltb};
-ghost use Rattle.frame_laws.specs.Kinds.{Realises};
+ghost use Rattle.micro_ir.specs.Kinds.{Realises};
 ghost use Rattle.micro_ir.specs.Pieces.{everywhere};
-ghost use Rattle.micro_ir.specs.Replay.{tally};
 ghost use Rattle.micro_ir.specs.Steps.{micro, micros};
 ghost use Rattle.micro_ir.specs.WorkRows.{IsOperandRow};
-ghost use Rattle.gen_arith.specs.Laws.{counts};
+ghost use Rattle.micro_ir.specs.Measures.{counts, Measured};
 ghost use Rattle.gen_arith.specs.Recipes.{operands, values_of, choice_steps, ltu, lt, first_on, second_on};
 ghost use Rattle.gen_arith.specs.Starts.{compare_of};
 ghost use Rattle.gen_arith.specs.declared.steps.Start.TheVariants.{Zero};
-ghost use Rattle.element_ops.specs.Values.{signed};
+ghost use Rattle.bit_laws.specs.Signed.{signed};
 
 use crate::comparing::{BORROW, MOST_NOT, emit_truth};
 use crate::folding::{Table, folded};
@@ -72,7 +71,7 @@ pub fn emit_minu<W: Width>(buf: &mut MicroBuf, at: &Place)
     ensures ops { buf.new.ops ≡ buf.old.ops ++ micros W.BITS (choice_steps ltu first_on W.BITS at.now.a at.now.b at.now.to) }
     ensures spare { buf.new.spare + (9 * W.BITS + 11) ≡ buf.old.spare }
     ensures realises { (reads : Bool) → Realises W.BITS at.now.to reads (λ n c. cond (ltb (n at.now.a) (n at.now.b)) (n at.now.a) (n at.now.b)) (micros W.BITS (choice_steps ltu first_on W.BITS at.now.a at.now.b at.now.to)) }
-    ensures cost { tally (micros W.BITS (choice_steps ltu first_on W.BITS at.now.a at.now.b at.now.to)) ≡ counts (5 * W.BITS + 8) (2 * W.BITS + 5) (2 * (W.BITS - 1)) }
+    ensures cost { Measured (counts (5 * W.BITS + 8) (2 * W.BITS + 5) (2 * (W.BITS - 1))) (9 * W.BITS + 11) (micros W.BITS (choice_steps ltu first_on W.BITS at.now.a at.now.b at.now.to)) }
 {
     emit_choice::<W>(buf, at, &BORROW, &FIRST);
 }
@@ -87,7 +86,7 @@ pub fn emit_min<W: Width>(buf: &mut MicroBuf, at: &Place)
     ensures ops { buf.new.ops ≡ buf.old.ops ++ micros W.BITS (choice_steps lt first_on W.BITS at.now.a at.now.b at.now.to) }
     ensures spare { buf.new.spare + (9 * W.BITS + 11) ≡ buf.old.spare }
     ensures realises { (reads : Bool) → Realises W.BITS at.now.to reads (λ n c. cond (int_lt (signed W.BITS (n at.now.a)) (signed W.BITS (n at.now.b))) (n at.now.a) (n at.now.b)) (micros W.BITS (choice_steps lt first_on W.BITS at.now.a at.now.b at.now.to)) }
-    ensures cost { tally (micros W.BITS (choice_steps lt first_on W.BITS at.now.a at.now.b at.now.to)) ≡ counts (5 * W.BITS + 8) (2 * W.BITS + 5) (2 * (W.BITS - 1)) }
+    ensures cost { Measured (counts (5 * W.BITS + 8) (2 * W.BITS + 5) (2 * (W.BITS - 1))) (9 * W.BITS + 11) (micros W.BITS (choice_steps lt first_on W.BITS at.now.a at.now.b at.now.to)) }
 {
     emit_choice::<W>(buf, at, &MOST_NOT, &FIRST);
 }
@@ -102,7 +101,7 @@ pub fn emit_maxu<W: Width>(buf: &mut MicroBuf, at: &Place)
     ensures ops { buf.new.ops ≡ buf.old.ops ++ micros W.BITS (choice_steps ltu second_on W.BITS at.now.a at.now.b at.now.to) }
     ensures spare { buf.new.spare + (9 * W.BITS + 11) ≡ buf.old.spare }
     ensures realises { (reads : Bool) → Realises W.BITS at.now.to reads (λ n c. cond (ltb (n at.now.a) (n at.now.b)) (n at.now.b) (n at.now.a)) (micros W.BITS (choice_steps ltu second_on W.BITS at.now.a at.now.b at.now.to)) }
-    ensures cost { tally (micros W.BITS (choice_steps ltu second_on W.BITS at.now.a at.now.b at.now.to)) ≡ counts (5 * W.BITS + 8) (2 * W.BITS + 5) (2 * (W.BITS - 1)) }
+    ensures cost { Measured (counts (5 * W.BITS + 8) (2 * W.BITS + 5) (2 * (W.BITS - 1))) (9 * W.BITS + 11) (micros W.BITS (choice_steps ltu second_on W.BITS at.now.a at.now.b at.now.to)) }
 {
     emit_choice::<W>(buf, at, &BORROW, &SECOND);
 }
@@ -117,7 +116,7 @@ pub fn emit_max<W: Width>(buf: &mut MicroBuf, at: &Place)
     ensures ops { buf.new.ops ≡ buf.old.ops ++ micros W.BITS (choice_steps lt second_on W.BITS at.now.a at.now.b at.now.to) }
     ensures spare { buf.new.spare + (9 * W.BITS + 11) ≡ buf.old.spare }
     ensures realises { (reads : Bool) → Realises W.BITS at.now.to reads (λ n c. cond (int_lt (signed W.BITS (n at.now.a)) (signed W.BITS (n at.now.b))) (n at.now.b) (n at.now.a)) (micros W.BITS (choice_steps lt second_on W.BITS at.now.a at.now.b at.now.to)) }
-    ensures cost { tally (micros W.BITS (choice_steps lt second_on W.BITS at.now.a at.now.b at.now.to)) ≡ counts (5 * W.BITS + 8) (2 * W.BITS + 5) (2 * (W.BITS - 1)) }
+    ensures cost { Measured (counts (5 * W.BITS + 8) (2 * W.BITS + 5) (2 * (W.BITS - 1))) (9 * W.BITS + 11) (micros W.BITS (choice_steps lt second_on W.BITS at.now.a at.now.b at.now.to)) }
 {
     emit_choice::<W>(buf, at, &MOST_NOT, &SECOND);
 }

@@ -2,14 +2,13 @@
 ghost use Rattle.std.specs.Prelude.{◌≡◌, Bool, ◌+◌, ◌-◌, ◌*◌, ◌^◌, ◌<◌, ◌≤◌, true, not, eqb, int_lt, int_le, ◌++◌, length};
 ghost use lib.Dec.{ltb, leb};
 ghost use Rattle.std.specs.Int.{from_bool};
-ghost use Rattle.frame_laws.specs.Kinds.{Tells};
-ghost use Rattle.micro_ir.specs.Replay.{tally};
+ghost use Rattle.micro_ir.specs.Kinds.{Tells};
 ghost use Rattle.micro_ir.specs.Steps.{micros};
 ghost use Rattle.micro_ir.specs.WorkRows.{IsOperandRow};
-ghost use Rattle.gen_arith.specs.Laws.{counts};
+ghost use Rattle.micro_ir.specs.Measures.{counts, Measured};
 ghost use Rattle.gen_arith.specs.Recipes.{truth_steps, madc, madc_in, msbc, msbc_in, eq, ne, ltu, lt, leu, le, gtu, gt};
 ghost use Rattle.gen_arith.specs.Starts.{start_count, compare_of};
-ghost use Rattle.element_ops.specs.Values.{signed};
+ghost use Rattle.bit_laws.specs.Signed.{signed};
 
 use crate::steps::{CARRY_ROW, Start, TRUTH_ROW, emit_carries, emit_start, emit_table_at};
 use bit_laws::Width;
@@ -69,7 +68,7 @@ pub fn emit_madc<W: Width>(buf: &mut MicroBuf, at: &Place)
     ensures ops { buf.new.ops ≡ buf.old.ops ++ micros W.BITS (truth_steps madc W.BITS at.now.a at.now.b) }
     ensures spare { buf.new.spare + (6 * W.BITS + 3) ≡ buf.old.spare }
     ensures tells { (reads : Bool) → Tells W.BITS reads (λ n c. leb (2 ^ W.BITS) (n at.now.a + n at.now.b)) (micros W.BITS (truth_steps madc W.BITS at.now.a at.now.b)) }
-    ensures cost { tally (micros W.BITS (truth_steps madc W.BITS at.now.a at.now.b)) ≡ counts (4 * W.BITS + 2) (W.BITS + 2) (W.BITS - 1) }
+    ensures cost { Measured (counts (4 * W.BITS + 2) (W.BITS + 2) (W.BITS - 1)) (6 * W.BITS + 3) (micros W.BITS (truth_steps madc W.BITS at.now.a at.now.b)) }
 {
     emit_truth::<W>(buf, at, Start::Zero, &MOST, &MOST);
 }
@@ -83,7 +82,7 @@ pub fn emit_madc_in<W: Width>(buf: &mut MicroBuf, at: &Place)
     ensures ops { buf.new.ops ≡ buf.old.ops ++ micros W.BITS (truth_steps madc_in W.BITS at.now.a at.now.b) }
     ensures spare { buf.new.spare + (6 * W.BITS + 5) ≡ buf.old.spare }
     ensures tells { Tells W.BITS true (λ n c. leb (2 ^ W.BITS) (n at.now.a + n at.now.b + from_bool c)) (micros W.BITS (truth_steps madc_in W.BITS at.now.a at.now.b)) }
-    ensures cost { tally (micros W.BITS (truth_steps madc_in W.BITS at.now.a at.now.b)) ≡ counts (4 * W.BITS + 3) (W.BITS + 3) (W.BITS - 1) }
+    ensures cost { Measured (counts (4 * W.BITS + 3) (W.BITS + 3) (W.BITS - 1)) (6 * W.BITS + 5) (micros W.BITS (truth_steps madc_in W.BITS at.now.a at.now.b)) }
 {
     emit_truth::<W>(buf, at, Start::Mask, &MOST, &MOST);
 }
@@ -97,7 +96,7 @@ pub fn emit_msbc<W: Width>(buf: &mut MicroBuf, at: &Place)
     ensures ops { buf.new.ops ≡ buf.old.ops ++ micros W.BITS (truth_steps msbc W.BITS at.now.a at.now.b) }
     ensures spare { buf.new.spare + (6 * W.BITS + 3) ≡ buf.old.spare }
     ensures tells { (reads : Bool) → Tells W.BITS reads (λ n c. ltb (n at.now.a) (n at.now.b)) (micros W.BITS (truth_steps msbc W.BITS at.now.a at.now.b)) }
-    ensures cost { tally (micros W.BITS (truth_steps msbc W.BITS at.now.a at.now.b)) ≡ counts (4 * W.BITS + 2) (W.BITS + 2) (W.BITS - 1) }
+    ensures cost { Measured (counts (4 * W.BITS + 2) (W.BITS + 2) (W.BITS - 1)) (6 * W.BITS + 3) (micros W.BITS (truth_steps msbc W.BITS at.now.a at.now.b)) }
 {
     emit_truth::<W>(buf, at, Start::Zero, &BORROW, &BORROW);
 }
@@ -111,7 +110,7 @@ pub fn emit_msbc_in<W: Width>(buf: &mut MicroBuf, at: &Place)
     ensures ops { buf.new.ops ≡ buf.old.ops ++ micros W.BITS (truth_steps msbc_in W.BITS at.now.a at.now.b) }
     ensures spare { buf.new.spare + (6 * W.BITS + 5) ≡ buf.old.spare }
     ensures tells { Tells W.BITS true (λ n c. ltb (n at.now.a) (n at.now.b + from_bool c)) (micros W.BITS (truth_steps msbc_in W.BITS at.now.a at.now.b)) }
-    ensures cost { tally (micros W.BITS (truth_steps msbc_in W.BITS at.now.a at.now.b)) ≡ counts (4 * W.BITS + 3) (W.BITS + 3) (W.BITS - 1) }
+    ensures cost { Measured (counts (4 * W.BITS + 3) (W.BITS + 3) (W.BITS - 1)) (6 * W.BITS + 5) (micros W.BITS (truth_steps msbc_in W.BITS at.now.a at.now.b)) }
 {
     emit_truth::<W>(buf, at, Start::Mask, &BORROW, &BORROW);
 }
@@ -125,7 +124,7 @@ pub fn emit_eq<W: Width>(buf: &mut MicroBuf, at: &Place)
     ensures ops { buf.new.ops ≡ buf.old.ops ++ micros W.BITS (truth_steps eq W.BITS at.now.a at.now.b) }
     ensures spare { buf.new.spare + (8 * W.BITS - 1) ≡ buf.old.spare }
     ensures tells { (reads : Bool) → Tells W.BITS reads (λ n c. eqb (n at.now.a) (n at.now.b)) (micros W.BITS (truth_steps eq W.BITS at.now.a at.now.b)) }
-    ensures cost { tally (micros W.BITS (truth_steps eq W.BITS at.now.a at.now.b)) ≡ counts (6 * W.BITS - 2) (W.BITS + 2) (W.BITS - 1) }
+    ensures cost { Measured (counts (6 * W.BITS - 2) (W.BITS + 2) (W.BITS - 1)) (8 * W.BITS - 1) (micros W.BITS (truth_steps eq W.BITS at.now.a at.now.b)) }
 {
     emit_truth::<W>(buf, at, Start::Zero, &UNLIKE, &ALIKE);
 }
@@ -139,7 +138,7 @@ pub fn emit_ne<W: Width>(buf: &mut MicroBuf, at: &Place)
     ensures ops { buf.new.ops ≡ buf.old.ops ++ micros W.BITS (truth_steps ne W.BITS at.now.a at.now.b) }
     ensures spare { buf.new.spare + (8 * W.BITS + 3) ≡ buf.old.spare }
     ensures tells { (reads : Bool) → Tells W.BITS reads (λ n c. not (eqb (n at.now.a) (n at.now.b))) (micros W.BITS (truth_steps ne W.BITS at.now.a at.now.b)) }
-    ensures cost { tally (micros W.BITS (truth_steps ne W.BITS at.now.a at.now.b)) ≡ counts (6 * W.BITS + 2) (W.BITS + 2) (W.BITS - 1) }
+    ensures cost { Measured (counts (6 * W.BITS + 2) (W.BITS + 2) (W.BITS - 1)) (8 * W.BITS + 3) (micros W.BITS (truth_steps ne W.BITS at.now.a at.now.b)) }
 {
     emit_truth::<W>(buf, at, Start::Zero, &UNLIKE, &UNLIKE);
 }
@@ -153,7 +152,7 @@ pub fn emit_ltu<W: Width>(buf: &mut MicroBuf, at: &Place)
     ensures ops { buf.new.ops ≡ buf.old.ops ++ micros W.BITS (truth_steps ltu W.BITS at.now.a at.now.b) }
     ensures spare { buf.new.spare + (6 * W.BITS + 3) ≡ buf.old.spare }
     ensures tells { (reads : Bool) → Tells W.BITS reads (λ n c. ltb (n at.now.a) (n at.now.b)) (micros W.BITS (truth_steps ltu W.BITS at.now.a at.now.b)) }
-    ensures cost { tally (micros W.BITS (truth_steps ltu W.BITS at.now.a at.now.b)) ≡ counts (4 * W.BITS + 2) (W.BITS + 2) (W.BITS - 1) }
+    ensures cost { Measured (counts (4 * W.BITS + 2) (W.BITS + 2) (W.BITS - 1)) (6 * W.BITS + 3) (micros W.BITS (truth_steps ltu W.BITS at.now.a at.now.b)) }
 {
     emit_truth::<W>(buf, at, Start::Zero, &BORROW, &BORROW);
 }
@@ -167,7 +166,7 @@ pub fn emit_lt<W: Width>(buf: &mut MicroBuf, at: &Place)
     ensures ops { buf.new.ops ≡ buf.old.ops ++ micros W.BITS (truth_steps lt W.BITS at.now.a at.now.b) }
     ensures spare { buf.new.spare + (6 * W.BITS + 3) ≡ buf.old.spare }
     ensures tells { (reads : Bool) → Tells W.BITS reads (λ n c. int_lt (signed W.BITS (n at.now.a)) (signed W.BITS (n at.now.b))) (micros W.BITS (truth_steps lt W.BITS at.now.a at.now.b)) }
-    ensures cost { tally (micros W.BITS (truth_steps lt W.BITS at.now.a at.now.b)) ≡ counts (4 * W.BITS + 2) (W.BITS + 2) (W.BITS - 1) }
+    ensures cost { Measured (counts (4 * W.BITS + 2) (W.BITS + 2) (W.BITS - 1)) (6 * W.BITS + 3) (micros W.BITS (truth_steps lt W.BITS at.now.a at.now.b)) }
 {
     emit_truth::<W>(buf, at, Start::Zero, &BORROW, &MOST_NOT);
 }
@@ -181,7 +180,7 @@ pub fn emit_leu<W: Width>(buf: &mut MicroBuf, at: &Place)
     ensures ops { buf.new.ops ≡ buf.old.ops ++ micros W.BITS (truth_steps leu W.BITS at.now.a at.now.b) }
     ensures spare { buf.new.spare + (6 * W.BITS + 3) ≡ buf.old.spare }
     ensures tells { (reads : Bool) → Tells W.BITS reads (λ n c. leb (n at.now.a) (n at.now.b)) (micros W.BITS (truth_steps leu W.BITS at.now.a at.now.b)) }
-    ensures cost { tally (micros W.BITS (truth_steps leu W.BITS at.now.a at.now.b)) ≡ counts (4 * W.BITS + 2) (W.BITS + 2) (W.BITS - 1) }
+    ensures cost { Measured (counts (4 * W.BITS + 2) (W.BITS + 2) (W.BITS - 1)) (6 * W.BITS + 3) (micros W.BITS (truth_steps leu W.BITS at.now.a at.now.b)) }
 {
     emit_truth::<W>(buf, at, Start::Zero, &MOST_NOT, &AT_MOST);
 }
@@ -195,7 +194,7 @@ pub fn emit_le<W: Width>(buf: &mut MicroBuf, at: &Place)
     ensures ops { buf.new.ops ≡ buf.old.ops ++ micros W.BITS (truth_steps le W.BITS at.now.a at.now.b) }
     ensures spare { buf.new.spare + (6 * W.BITS + 3) ≡ buf.old.spare }
     ensures tells { (reads : Bool) → Tells W.BITS reads (λ n c. int_le (signed W.BITS (n at.now.a)) (signed W.BITS (n at.now.b))) (micros W.BITS (truth_steps le W.BITS at.now.a at.now.b)) }
-    ensures cost { tally (micros W.BITS (truth_steps le W.BITS at.now.a at.now.b)) ≡ counts (4 * W.BITS + 2) (W.BITS + 2) (W.BITS - 1) }
+    ensures cost { Measured (counts (4 * W.BITS + 2) (W.BITS + 2) (W.BITS - 1)) (6 * W.BITS + 3) (micros W.BITS (truth_steps le W.BITS at.now.a at.now.b)) }
 {
     emit_truth::<W>(buf, at, Start::Zero, &MOST_NOT, &AT_MOST_SIGNED);
 }
@@ -209,7 +208,7 @@ pub fn emit_gtu<W: Width>(buf: &mut MicroBuf, at: &Place)
     ensures ops { buf.new.ops ≡ buf.old.ops ++ micros W.BITS (truth_steps gtu W.BITS at.now.a at.now.b) }
     ensures spare { buf.new.spare + (6 * W.BITS + 3) ≡ buf.old.spare }
     ensures tells { (reads : Bool) → Tells W.BITS reads (λ n c. ltb (n at.now.b) (n at.now.a)) (micros W.BITS (truth_steps gtu W.BITS at.now.a at.now.b)) }
-    ensures cost { tally (micros W.BITS (truth_steps gtu W.BITS at.now.a at.now.b)) ≡ counts (4 * W.BITS + 2) (W.BITS + 2) (W.BITS - 1) }
+    ensures cost { Measured (counts (4 * W.BITS + 2) (W.BITS + 2) (W.BITS - 1)) (6 * W.BITS + 3) (micros W.BITS (truth_steps gtu W.BITS at.now.a at.now.b)) }
 {
     emit_truth::<W>(buf, at, Start::Zero, &MOST_NOT, &MOST_NOT);
 }
@@ -223,7 +222,7 @@ pub fn emit_gt<W: Width>(buf: &mut MicroBuf, at: &Place)
     ensures ops { buf.new.ops ≡ buf.old.ops ++ micros W.BITS (truth_steps gt W.BITS at.now.a at.now.b) }
     ensures spare { buf.new.spare + (6 * W.BITS + 3) ≡ buf.old.spare }
     ensures tells { (reads : Bool) → Tells W.BITS reads (λ n c. int_lt (signed W.BITS (n at.now.b)) (signed W.BITS (n at.now.a))) (micros W.BITS (truth_steps gt W.BITS at.now.a at.now.b)) }
-    ensures cost { tally (micros W.BITS (truth_steps gt W.BITS at.now.a at.now.b)) ≡ counts (4 * W.BITS + 2) (W.BITS + 2) (W.BITS - 1) }
+    ensures cost { Measured (counts (4 * W.BITS + 2) (W.BITS + 2) (W.BITS - 1)) (6 * W.BITS + 3) (micros W.BITS (truth_steps gt W.BITS at.now.a at.now.b)) }
 {
     emit_truth::<W>(buf, at, Start::Zero, &MOST_NOT, &BORROW);
 }

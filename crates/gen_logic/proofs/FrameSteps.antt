@@ -16,9 +16,9 @@ use Rattle.micro_ir.specs.WorkRows.{scalar_row, free_row}
 use Rattle.micro_ir.proofs.OneElement.{hit, fires-hit, step-row, everywhere-here, everywhere-fits}
 use Rattle.micro_ir.proofs.Effects.{makes}
 use Rattle.micro_ir.proofs.StepLists.{tally-micros, length-micros, AllInRange-micros}
-use Rattle.frame_laws.specs.Pieces.{splat, fill_step}
-use Rattle.frame_laws.proofs.OneElement.{splat-here, splat-row, splat-fits}
-use Rattle.gen_logic.specs.Values.{Measured}
+use Rattle.micro_ir.specs.Pieces.{splat, fill_step}
+use Rattle.micro_ir.proofs.Scalars.{splat-here, splat-row, splat-fits}
+use Rattle.micro_ir.specs.Measures.{counts, Measured}
 
 -- the list of the scalar, as it is written
 pub splat-list : (w scalar : ℕ) → let ones : ℕ → Bool = λ j. ltb j w && bit_of scalar j in
@@ -57,11 +57,11 @@ splat-makes w scalar =
         (λ (other : r ≢ scalar_row). rw (ne_eqb r scalar_row other) (splat-row w scalar e r i other))
         (cases_eq r scalar_row)
 
-pub splat-measured : (w scalar : ℕ) → Measured 2 2 (micros w (splat w scalar))
+pub splat-measured : (w scalar : ℕ) → Measured (counts 2 2 0) 4 (micros w (splat w scalar))
 unfolding splat
 splat-measured w scalar = record {
   cost = tally-micros w (splat w scalar);
-  long = length-micros w (splat w scalar);
+  count = length-micros w (splat w scalar);
   range = λ columns. AllInRange-micros columns w (splat w scalar) (omega arith, omega arith, (omega arith, omega arith, tt));
 }
 
@@ -81,9 +81,9 @@ fill-makes w to =
         (λ (other : r ≢ to). rw (ne_eqb r to other) (step-row (fill_step w to) e r i other))
         (cases_eq r to)
 
-pub fill-measured : (w to : ℕ) → to < 32 → Measured 1 1 (micros w (fill_step w to ∷ []))
+pub fill-measured : (w to : ℕ) → to < 32 → Measured (counts 1 1 0) 2 (micros w (fill_step w to ∷ []))
 fill-measured w to register = record {
   cost = tally-micros w (fill_step w to ∷ []);
-  long = length-micros w (fill_step w to ∷ []);
+  count = length-micros w (fill_step w to ∷ []);
   range = λ columns. AllInRange-micros columns w (fill_step w to ∷ []) (omega arith, omega arith, tt);
 }

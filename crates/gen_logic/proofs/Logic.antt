@@ -8,9 +8,10 @@ use Rattle.micro_ir.specs.Steps.{micros}
 use Rattle.micro_ir.specs.WorkRows.{result_row}
 use Rattle.micro_ir.specs.Pieces.{everywhere}
 use Rattle.micro_ir.proofs.OneElement.{hit, everywhere-fits, commit-fits}
-use Rattle.frame_laws.specs.Kinds.{Realises, RealisesBits}
+use Rattle.micro_ir.specs.Kinds.{Realises, RealisesBits}
 use Rattle.gen_logic.specs.Recipes.{and_on, or_on, xor_on, nand_on, nor_on, xnor_on, andn_on, orn_on, move_steps}
-use Rattle.gen_logic.specs.Values.{differs, Measured}
+use Rattle.gen_logic.specs.Values.{differs}
+use Rattle.micro_ir.specs.Measures.{counts, Measured}
 use Rattle.gen_logic.proofs.Tables.{IsTable, bits-lifted, numbers-of-bits, made, one-here, made-measured}
 
 -- a test of bits, by their four values
@@ -154,6 +155,6 @@ pub move-numbers : (w b to : ℕ) (reads : Bool) → b ≢ result_row → to < 3
 move-numbers w b to reads other register =
     numbers-of-bits w to reads (λ n. n b) (λ n m. n b) _ (λ n m j below mask. refl) (λ f g same. same b) (move-bits w b to other register)
 
-pub move-measured : (w b to : ℕ) → to < 32 → Measured 4 4 (micros w (move_steps w b to))
+pub move-measured : (w b to : ℕ) → to < 32 → Measured (counts 4 4 0) 8 (micros w (move_steps w b to))
 unfolding move_steps
 move-measured w b to register = made-measured w to (everywhere w (b ∷ []) (1 ∷ []) result_row true) 1 [] refl refl refl register

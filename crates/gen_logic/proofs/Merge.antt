@@ -6,9 +6,9 @@ use Rattle.micro_ir.specs.Steps.{fires, step_on, AllFit, micros}
 use Rattle.micro_ir.specs.WorkRows.{mask_row, result_row}
 use Rattle.micro_ir.specs.Pieces.{everywhere, clear, commit}
 use Rattle.micro_ir.proofs.OneElement.{hit, fires-hit, step-row, everywhere-here, clear-here, everywhere-fits, commit-fits}
-use Rattle.frame_laws.specs.Kinds.{Realises, RealisesBits}
+use Rattle.micro_ir.specs.Kinds.{Realises, RealisesBits}
 use Rattle.gen_logic.specs.Recipes.{merge_inputs, merge_on, merge_steps}
-use Rattle.gen_logic.specs.Values.{Measured}
+use Rattle.micro_ir.specs.Measures.{counts, Measured}
 use Rattle.gen_logic.proofs.Tables.{bits-lifted, numbers-of-bits, made, as_is, made-measured}
 
 -- ---- the tables, of the mask bit m and the bits x and y of row a and row b
@@ -95,17 +95,17 @@ merge-numbers w a b to first second register =
     chosen true x y j = refl
     chosen false x y j = refl
 
-pub merge-measured : (w a b to : ℕ) → to < 32 → Measured 7 4 (micros w (merge_steps w a b to))
+pub merge-measured : (w a b to : ℕ) → to < 32 → Measured (counts 7 4 0) 11 (micros w (merge_steps w a b to))
 unfolding merge_steps
 merge-measured w a b to register = chosen (eqb a mask_row) (eqb b mask_row) (eqb a b)
   where
     inputs : List ℕ
     inputs = merge_inputs a b
 
-    four : (p q r t : ℕ) → Measured 7 4 (micros w (clear w result_row ∷ everywhere w inputs (p ∷ q ∷ r ∷ t ∷ []) result_row true ∷ commit w result_row to))
+    four : (p q r t : ℕ) → Measured (counts 7 4 0) 11 (micros w (clear w result_row ∷ everywhere w inputs (p ∷ q ∷ r ∷ t ∷ []) result_row true ∷ commit w result_row to))
     four p q r t = made-measured w to (everywhere w inputs (p ∷ q ∷ r ∷ t ∷ []) result_row true) p (q ∷ r ∷ t ∷ []) refl refl refl register
 
-    chosen : (c d f : Bool) → Measured 7 4 (micros w (clear w result_row
+    chosen : (c d f : Bool) → Measured (counts 7 4 0) 11 (micros w (clear w result_row
         ∷ everywhere w inputs (cond c (cond d (1 ∷ 1 ∷ 1 ∷ 1 ∷ []) (3 ∷ 3 ∷ 3 ∷ 3 ∷ [])) (cond d (2 ∷ 1 ∷ 2 ∷ 3 ∷ []) (cond f (2 ∷ 2 ∷ 2 ∷ 3 ∷ []) (2 ∷ 5 ∷ 6 ∷ 7 ∷ [])))) result_row true
         ∷ commit w result_row to))
     chosen true true f = four 1 1 1 1

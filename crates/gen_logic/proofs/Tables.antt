@@ -10,10 +10,11 @@ use Rattle.micro_ir.proofs.Lift.{micros-element}
 use Rattle.micro_ir.proofs.StepLists.{tally-micros, length-micros, AllInRange-micros}
 use Rattle.micro_ir.specs.WorkRows.{active_row, mask_row, result_row}
 use Rattle.micro_ir.specs.Pieces.{everywhere, clear, commit}
-use Rattle.frame_laws.specs.Kinds.{Realises, WritesBits, RealisesBits}
+use Rattle.micro_ir.specs.Kinds.{Realises, WritesBits, RealisesBits}
 use Rattle.micro_ir.proofs.OneElement.{hit, fires-hit, step-row, everywhere-here, clear-here, commit-here, commit-row, everywhere-fits, commit-fits}
 use Rattle.gen_logic.specs.Recipes.{has, once, of_one_row, of_rows, table_steps}
-use Rattle.gen_logic.specs.Values.{bitwise, Measured}
+use Rattle.gen_logic.specs.Values.{bitwise}
+use Rattle.micro_ir.specs.Measures.{counts, Measured}
 
 -- ---- from one element to all, and from bits to numbers
 
@@ -168,16 +169,16 @@ table-bitwise on truth table w a b to reads first second register =
 
 -- a list with one step of so many values between a clear and a commit
 pub made-measured : (w to : ℕ) (step : Step) (t : ℕ) (ts : List ℕ) → step.on ≡ t ∷ ts → step.times ≡ 0 → step.out ≡ result_row → to < 32
-    → Measured (length (t ∷ ts) + 3) 4 (micros w (clear w result_row ∷ step ∷ commit w result_row to))
+    → Measured (counts (length (t ∷ ts) + 3) 4 0) (length (t ∷ ts) + 3 + 4) (micros w (clear w result_row ∷ step ∷ commit w result_row to))
 made-measured w to step t ts on times out register =
     let steps : List Step = clear w result_row ∷ step ∷ commit w result_row to in
     record {
       cost = tally-micros w steps ∙ rw (on, times) (λ i. record { searches = (let z : 1 + (length (t ∷ ts) + (1 + (1 + 0))) ≡ length (t ∷ ts) + 3 = omega arith in z i); updates = 4; passes = 0 });
-      long = length-micros w steps ∙ rw (on, times) (omega arith);
+      count = length-micros w steps ∙ rw (on, times) (omega arith);
       range = λ columns. AllInRange-micros columns w steps (omega arith, omega arith, (rw out (omega arith), rw times (omega arith), (omega arith, omega arith, (omega arith, omega arith, tt))));
     }
 
-pub table-measured : (t : ℕ) (ts : List ℕ) (w a b to : ℕ) → to < 32 → Measured (length (t ∷ ts) + 3) 4 (micros w (table_steps w (t ∷ ts) a b to))
+pub table-measured : (t : ℕ) (ts : List ℕ) (w a b to : ℕ) → to < 32 → Measured (counts (length (t ∷ ts) + 3) 4 0) (length (t ∷ ts) + 3 + 4) (micros w (table_steps w (t ∷ ts) a b to))
 unfolding table_steps
 table-measured t ts w a b to register = chosen (eqb a b) (has 0 on || has 3 on)
   where
@@ -187,10 +188,10 @@ table-measured t ts w a b to register = chosen (eqb a b) (has 0 on || has 3 on)
     long : (f : ℕ → ℕ) → length (map f on) + 3 ≡ length on + 3
     long f = ap (λ n. n + 3) (length-map on f)
 
-    carried : (m n : ℕ) (ops : List MicroOp) → m ≡ n → Measured m 4 ops → Measured n 4 ops
-    carried m n ops e x = subst (λ z. Measured z 4 ops) e x
+    carried : (m n : ℕ) (ops : List MicroOp) → m ≡ n → Measured (counts m 4 0) (m + 4) ops → Measured (counts n 4 0) (n + 4) ops
+    carried m n ops e x = subst (λ z. Measured (counts z 4 0) (z + 4) ops) e x
 
-    chosen : (c d : Bool) → Measured (length on + 3) 4 (micros w (clear w result_row ∷ cond c (cond d (everywhere w (a ∷ []) (map (once on) on) result_row true) (everywhere w (result_row ∷ []) (map (λ t. 1) on) result_row true)) (everywhere w (a ∷ b ∷ []) on result_row true) ∷ commit w result_row to))
+    chosen : (c d : Bool) → Measured (counts (length on + 3) 4 0) (length on + 3 + 4) (micros w (clear w result_row ∷ cond c (cond d (everywhere w (a ∷ []) (map (once on) on) result_row true) (everywhere w (result_row ∷ []) (map (λ t. 1) on) result_row true)) (everywhere w (a ∷ b ∷ []) on result_row true) ∷ commit w result_row to))
     chosen true true = carried _ _ _ (long (once on)) (made-measured w to (everywhere w (a ∷ []) (map (once on) on) result_row true) (once on t) (map (once on) ts) refl refl refl register)
     chosen true false = carried _ _ _ (long (λ t. 1)) (made-measured w to (everywhere w (result_row ∷ []) (map (λ t. 1) on) result_row true) 1 (map (λ t. 1) ts) refl refl refl register)
     chosen false d = made-measured w to (everywhere w (a ∷ b ∷ []) on result_row true) t ts refl refl refl register

@@ -7,8 +7,8 @@ ghost use Rattle.micro_ir.specs.Steps.{micros};
 ghost use Rattle.micro_ir.specs.Subs.{subs_of};
 ghost use Rattle.micro_ir.specs.WorkRows.{scalar_row, free_row};
 ghost use Rattle.micro_ir.specs.Effects.{Makes};
-ghost use Rattle.frame_laws.specs.Pieces.{splat, fill_step};
-ghost use Rattle.gen_logic.specs.Values.{Measured};
+ghost use Rattle.micro_ir.specs.Pieces.{splat, fill_step};
+ghost use Rattle.micro_ir.specs.Measures.{counts, Measured};
 
 use bit_laws::Width;
 use cam_chain::Keys;
@@ -71,7 +71,7 @@ pub fn emit_splat<W: Width>(buf: &mut MicroBuf, at: &Place, scalar: u32)
     ensures makes { Makes W.BITS
         (λ e r i. cond (eqb r scalar_row && ltb i W.BITS) (bit_of scalar i) (e r i))
         (micros W.BITS (splat W.BITS scalar)) }
-    ensures measured { Measured 2 2 (micros W.BITS (splat W.BITS scalar)) }
+    ensures measured { Measured (counts 2 2 0) 4 (micros W.BITS (splat W.BITS scalar)) }
 {
     emit_clear(buf, SCALAR_ROW);
     push_ones(buf, ones_of::<W>(scalar));
@@ -89,7 +89,7 @@ pub fn emit_fill<W: Width>(buf: &mut MicroBuf, at: &Place)
     ensures makes { (w : ℕ) → Makes w
         (λ e r i. cond (eqb r at.now.to && e free_row i) true (e r i))
         (micros w (fill_step w at.now.to ∷ [])) }
-    ensures measured { (w : ℕ) → Measured 1 1 (micros w (fill_step w at.now.to ∷ [])) }
+    ensures measured { (w : ℕ) → Measured (counts 1 1 0) 2 (micros w (fill_step w at.now.to ∷ [])) }
 {
     emit_everywhere(buf, &[FREE_ROW], &ONES_ON, at.to);
 }

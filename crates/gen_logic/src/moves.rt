@@ -3,9 +3,9 @@ ghost use Rattle.std.specs.Prelude.{◌≡◌, ℕ, ◌+◌, ◌<◌, ◌≤◌,
 ghost use Rattle.micro_ir.specs.Steps.{micro, micros};
 ghost use Rattle.micro_ir.specs.WorkRows.{IsOperandRow, mask_row, result_row};
 ghost use Rattle.micro_ir.specs.Pieces.{everywhere};
-ghost use Rattle.frame_laws.specs.Kinds.{Realises, RealisesBits};
+ghost use Rattle.micro_ir.specs.Kinds.{Realises, RealisesBits};
 ghost use Rattle.gen_logic.specs.Recipes.{move_steps, merge_inputs, merge_on, merge_steps};
-ghost use Rattle.gen_logic.specs.Values.{Measured};
+ghost use Rattle.micro_ir.specs.Measures.{counts, Measured};
 
 use bit_laws::Width;
 use micro_ir::{MicroBuf, Place, emit_clear, emit_commit, emit_everywhere};
@@ -49,7 +49,7 @@ pub fn emit_move<W: Width>(buf: &mut MicroBuf, at: &Place)
         (micros W.BITS (move_steps W.BITS at.now.b at.now.to)) }
     ensures bits { (w : ℕ) → RealisesBits w at.now.to (λ n. n at.now.b)
         (micros w (move_steps w at.now.b at.now.to)) }
-    ensures cost { (w : ℕ) → Measured 4 4 (micros w (move_steps w at.now.b at.now.to)) }
+    ensures cost { (w : ℕ) → Measured (counts 4 4 0) 8 (micros w (move_steps w at.now.b at.now.to)) }
 {
     emit_clear(buf, RESULT_ROW);
     emit_everywhere(buf, &[at.b], &COPY_ON, RESULT_ROW);
@@ -97,7 +97,7 @@ pub fn emit_merge<W: Width>(buf: &mut MicroBuf, at: &Place)
     ensures bits { (w : ℕ) → RealisesBits w at.now.to
         (λ n. cond (n mask_row) (n at.now.b) (n at.now.a))
         (micros w (merge_steps w at.now.a at.now.b at.now.to)) }
-    ensures cost { (w : ℕ) → Measured 7 4
+    ensures cost { (w : ℕ) → Measured (counts 7 4 0) 11
         (micros w (merge_steps w at.now.a at.now.b at.now.to)) }
 {
     emit_clear(buf, RESULT_ROW);

@@ -2,9 +2,10 @@
 ghost use Rattle.std.specs.Prelude.{◌≡◌, ℕ, ◌+◌, ◌<◌, ◌≤◌, cond, ◌&&◌, ◌||◌, not, Bool, ◌++◌, bit_and, bit_or, bit_xor, length, map, take};
 ghost use Rattle.micro_ir.specs.Steps.{micro, micros};
 ghost use Rattle.micro_ir.specs.WorkRows.{IsOperandRow, result_row};
-ghost use Rattle.frame_laws.specs.Kinds.{Realises, RealisesBits};
+ghost use Rattle.micro_ir.specs.Kinds.{Realises, RealisesBits};
 ghost use Rattle.gen_logic.specs.Recipes.{has, once, of_rows, table_steps, and_on, or_on, xor_on, nand_on, nor_on, xnor_on, andn_on, orn_on};
-ghost use Rattle.gen_logic.specs.Values.{differs, bitwise, Measured};
+ghost use Rattle.gen_logic.specs.Values.{differs, bitwise};
+ghost use Rattle.micro_ir.specs.Measures.{counts, Measured};
 
 use bit_laws::Width;
 use micro_ir::{MicroBuf, Place, emit_clear, emit_commit, emit_everywhere};
@@ -133,7 +134,7 @@ pub fn emit_and<W: Width>(buf: &mut MicroBuf, at: &Place)
         (micros W.BITS (table_steps W.BITS and_on at.now.a at.now.b at.now.to)) }
     ensures bits { (w : ℕ) → RealisesBits w at.now.to (λ n. n at.now.a && n at.now.b)
         (micros w (table_steps w and_on at.now.a at.now.b at.now.to)) }
-    ensures cost { (w : ℕ) → Measured 4 4
+    ensures cost { (w : ℕ) → Measured (counts 4 4 0) 8
         (micros w (table_steps w and_on at.now.a at.now.b at.now.to)) }
 {
     emit_table_kind(buf, at, &AND_ON);
@@ -155,7 +156,7 @@ pub fn emit_or<W: Width>(buf: &mut MicroBuf, at: &Place)
         (micros W.BITS (table_steps W.BITS or_on at.now.a at.now.b at.now.to)) }
     ensures bits { (w : ℕ) → RealisesBits w at.now.to (λ n. n at.now.a || n at.now.b)
         (micros w (table_steps w or_on at.now.a at.now.b at.now.to)) }
-    ensures cost { (w : ℕ) → Measured 6 4
+    ensures cost { (w : ℕ) → Measured (counts 6 4 0) 10
         (micros w (table_steps w or_on at.now.a at.now.b at.now.to)) }
 {
     emit_table_kind(buf, at, &OR_ON);
@@ -178,7 +179,7 @@ pub fn emit_xor<W: Width>(buf: &mut MicroBuf, at: &Place)
         (micros W.BITS (table_steps W.BITS xor_on at.now.a at.now.b at.now.to)) }
     ensures bits { (w : ℕ) → RealisesBits w at.now.to (λ n. differs (n at.now.a) (n at.now.b))
         (micros w (table_steps w xor_on at.now.a at.now.b at.now.to)) }
-    ensures cost { (w : ℕ) → Measured 5 4
+    ensures cost { (w : ℕ) → Measured (counts 5 4 0) 9
         (micros w (table_steps w xor_on at.now.a at.now.b at.now.to)) }
 {
     emit_table_kind(buf, at, &XOR_ON);
@@ -201,7 +202,7 @@ pub fn emit_nand<W: Width>(buf: &mut MicroBuf, at: &Place)
         (micros W.BITS (table_steps W.BITS nand_on at.now.a at.now.b at.now.to)) }
     ensures bits { (w : ℕ) → RealisesBits w at.now.to (λ n. not (n at.now.a && n at.now.b))
         (micros w (table_steps w nand_on at.now.a at.now.b at.now.to)) }
-    ensures cost { (w : ℕ) → Measured 6 4
+    ensures cost { (w : ℕ) → Measured (counts 6 4 0) 10
         (micros w (table_steps w nand_on at.now.a at.now.b at.now.to)) }
 {
     emit_table_kind(buf, at, &NAND_ON);
@@ -224,7 +225,7 @@ pub fn emit_nor<W: Width>(buf: &mut MicroBuf, at: &Place)
         (micros W.BITS (table_steps W.BITS nor_on at.now.a at.now.b at.now.to)) }
     ensures bits { (w : ℕ) → RealisesBits w at.now.to (λ n. not (n at.now.a || n at.now.b))
         (micros w (table_steps w nor_on at.now.a at.now.b at.now.to)) }
-    ensures cost { (w : ℕ) → Measured 4 4
+    ensures cost { (w : ℕ) → Measured (counts 4 4 0) 8
         (micros w (table_steps w nor_on at.now.a at.now.b at.now.to)) }
 {
     emit_table_kind(buf, at, &NOR_ON);
@@ -247,7 +248,7 @@ pub fn emit_xnor<W: Width>(buf: &mut MicroBuf, at: &Place)
         (micros W.BITS (table_steps W.BITS xnor_on at.now.a at.now.b at.now.to)) }
     ensures bits { (w : ℕ) → RealisesBits w at.now.to (λ n. not (differs (n at.now.a) (n at.now.b)))
         (micros w (table_steps w xnor_on at.now.a at.now.b at.now.to)) }
-    ensures cost { (w : ℕ) → Measured 5 4
+    ensures cost { (w : ℕ) → Measured (counts 5 4 0) 9
         (micros w (table_steps w xnor_on at.now.a at.now.b at.now.to)) }
 {
     emit_table_kind(buf, at, &XNOR_ON);
@@ -270,7 +271,7 @@ pub fn emit_andn<W: Width>(buf: &mut MicroBuf, at: &Place)
         (micros W.BITS (table_steps W.BITS andn_on at.now.a at.now.b at.now.to)) }
     ensures bits { (w : ℕ) → RealisesBits w at.now.to (λ n. n at.now.a && not (n at.now.b))
         (micros w (table_steps w andn_on at.now.a at.now.b at.now.to)) }
-    ensures cost { (w : ℕ) → Measured 4 4
+    ensures cost { (w : ℕ) → Measured (counts 4 4 0) 8
         (micros w (table_steps w andn_on at.now.a at.now.b at.now.to)) }
 {
     emit_table_kind(buf, at, &ANDN_ON);
@@ -293,7 +294,7 @@ pub fn emit_orn<W: Width>(buf: &mut MicroBuf, at: &Place)
         (micros W.BITS (table_steps W.BITS orn_on at.now.a at.now.b at.now.to)) }
     ensures bits { (w : ℕ) → RealisesBits w at.now.to (λ n. n at.now.a || not (n at.now.b))
         (micros w (table_steps w orn_on at.now.a at.now.b at.now.to)) }
-    ensures cost { (w : ℕ) → Measured 6 4
+    ensures cost { (w : ℕ) → Measured (counts 6 4 0) 10
         (micros w (table_steps w orn_on at.now.a at.now.b at.now.to)) }
 {
     emit_table_kind(buf, at, &ORN_ON);

@@ -1,2 +1,5 @@
 -- The proofs of the facts of legality.
+pub mod Widths
+pub mod Overlaps
+pub mod Laws
 pub mod Groups

@@ -1,11 +1,86 @@
--- What legality says of the registers of an instruction, class by class.
-use Rattle.std.specs.Prelude.{◌≡◌, ℕ, ◌+◌, ◌/◌, ◌<◌, ◌≤◌, true, false, ◌⊎◌, IsTrue, max}
+-- What legality says of the registers of an instruction: by the widths of its operands, and class by class.
+use Rattle.std.specs.Prelude.{◌≡◌, ℕ, suc, ◌+◌, ◌-◌, ◌*◌, ◌/◌, ◌%◌, ◌<◌, ◌≤◌, Bool, true, false, ◌&&◌, nat_lt, nat_le, ◌⊎◌, IsTrue, max}
 use Rattle.rvv_decode.specs.declared.instruction.VInstr.{VInstr}
 use Rattle.rvv_decode.specs.declared.instruction.Form.TheVariants.{V}
 use Rattle.vtype_cfg.specs.declared.vtype.Vtype.{Vtype}
 use Rattle.vtype_cfg.specs.Settings.{is_vill_or_supported}
-use Rattle.vtype_cfg.specs.Classes.{Class, plain, move, compare, class_of}
+use Rattle.vtype_cfg.specs.Groups.{groups_at, group_registers}
+use Rattle.vtype_cfg.specs.Classes.{Class, plain, move, compare, class_of, mask, group, row_of}
 use Rattle.vtype_cfg.specs.Legality.{is_legal}
+
+-- ---- groups by the widths of their elements
+
+-- the bits of an element that a group may have
+abbrev pub IsElementWidth : ℕ → Type 0
+IsElementWidth width = (width ≡ 8) ⊎ ((width ≡ 16) ⊎ (width ≡ 32))
+
+-- how many registers a group of elements of so many bits takes: EMUL, and one where that is less
+abbrev pub registers_for : Vtype → ℕ → ℕ
+registers_for vt width = group_registers (groups_at vt 1 width 0)
+
+-- where the group of n registers from `first` on lies
+pub record Group (n first : ℕ) : Type 0 where
+  pub some : 0 < n
+  pub few : n ≤ 8
+  pub room : first + n ≤ 32
+  pub aligned : first % n ≡ 0
+
+-- Register r of the n registers from `first` on, which have elements of s bits, holds one with the same number as an element
+-- in register g of a group of elements of d bits. In units of VLEN/(d·s) elements register k of the first group holds those
+-- from k·d up to, but without, (k + 1)·d, and register g of the second one those from g·s up to (g + 1)·s.
+abbrev pub is_read_for : (d s first n g r : ℕ) → Bool
+is_read_for d s first n g r =
+    nat_le first r && nat_lt r (first + n) && (nat_lt ((r - first) * d) (suc g * s) && nat_lt (g * s) (suc (r - first) * d))
+
+-- A source that is a group of elements of s bits from `first` on, where the destination is one of elements of d bits from vd
+-- on: for register g of the destination no register is read that the registers before g have overwritten.
+pub record ReadBeside (vt : Vtype) (d vd s first : ℕ) : Type 0 where
+  pub width : IsElementWidth s
+  pub place : Group (registers_for vt s) first
+  pub unwritten : (g r : ℕ) → g < registers_for vt d → is_read_for d s first (registers_for vt s) g r ≡ true → (r < 32) × ((r < vd) ⊎ (vd + g ≤ r))
+
+-- A source that is a group of elements of s bits from `first` on, where the destination is the mask in vd: of the group's
+-- registers only the lowest-numbered one may be the mask.
+pub record ReadForMask (vt : Vtype) (vd s first : ℕ) : Type 0 where
+  pub width : IsElementWidth s
+  pub place : Group (registers_for vt s) first
+  pub lowest : (g : ℕ) → g < registers_for vt s → first + g ≡ vd → g ≡ 0
+
+-- a fact of the source in vs2, and of that in vs1, where it is a group of elements of s bits from the register named there on
+pub record Sources (class : Class) (i : VInstr) (vt : Vtype) (fact : (s first : ℕ) → Type 0) : Type 0 where
+  pub vs2 : (s : ℕ) → (row_of class vt.sew i).vs2 ≡ group s → fact s i.vs2
+  pub vs1 : (s : ℕ) → i.form ≡ V → (row_of class vt.sew i).vs1 ≡ group s → fact s i.vs1
+
+-- an instruction of a class whose destination is a group of elements of d bits, and which spares the mask that it reads
+pub record GroupWritten (class : Class) (i : VInstr) (vt : Vtype) (d : ℕ) : Type 0 where
+  pub vill : vt.vill ≡ false
+  pub sew : IsElementWidth vt.sew
+  pub width : IsElementWidth d
+  pub place : Group (registers_for vt d) i.vd
+  pub spares_mask : i.vm ≡ false → 0 < i.vd
+  pub sources : Sources class i vt (ReadBeside vt d i.vd)
+
+-- an instruction of a class whose destination is a mask; it may write the mask that it reads
+pub record MaskWritten (class : Class) (i : VInstr) (vt : Vtype) : Type 0 where
+  pub vill : vt.vill ≡ false
+  pub sew : IsElementWidth vt.sew
+  pub room : i.vd < 32
+  pub sources : Sources class i vt (ReadForMask vt i.vd)
+
+-- what a legal instruction of a class has
+abbrev pub Follows : Class → (VInstr → Vtype → Type 0) → Type 0
+Follows class fact =
+    (i : VInstr) (vt : Vtype) (vstart : ℕ) → IsTrue (is_vill_or_supported vt) → is_legal i vt vstart ≡ true → class_of i.op ≡ class → fact i vt
+
+-- every class whose destination is a group
+abbrev pub GroupLaw : Type 0
+GroupLaw = (class : Class) → Follows class (λ i vt. (d : ℕ) → (row_of class vt.sew i).vd ≡ group d → GroupWritten class i vt d)
+
+-- every class whose destination is a mask
+abbrev pub MaskLaw : Type 0
+MaskLaw = (class : Class) → Follows class (λ i vt. (row_of class vt.sew i).vd ≡ mask → MaskWritten class i vt)
+
+-- ---- classes whose groups have elements of SEW bits
 
 -- how many registers a group of elements of SEW bits takes: LMUL, and one where that is less
 abbrev pub group_count : Vtype → ℕ
@@ -18,7 +93,7 @@ SameOrApart n vd r = (r + n ≤ 32) × ((r ≡ vd) ⊎ ((r + n ≤ vd) ⊎ (vd +
 -- an instruction whose destination and vs1 are groups of elements of SEW bits
 pub record SewGroups (i : VInstr) (vt : Vtype) : Type 0 where
   pub vill : vt.vill ≡ false
-  pub sew : (vt.sew ≡ 8) ⊎ ((vt.sew ≡ 16) ⊎ (vt.sew ≡ 32))
+  pub sew : IsElementWidth vt.sew
   pub few : group_count vt ≤ 8
   pub room : i.vd + group_count vt ≤ 32
   pub spares_mask : i.vm ≡ false → 0 < i.vd
@@ -33,16 +108,11 @@ LowestOrApart n vd r = (r + n ≤ 32) × ((vd ≡ r) ⊎ ((vd < r) ⊎ (r + n �
 -- that it reads
 pub record MaskGroups (i : VInstr) (vt : Vtype) : Type 0 where
   pub vill : vt.vill ≡ false
-  pub sew : (vt.sew ≡ 8) ⊎ ((vt.sew ≡ 16) ⊎ (vt.sew ≡ 32))
+  pub sew : IsElementWidth vt.sew
   pub few : group_count vt ≤ 8
   pub room : i.vd < 32
   pub vs2 : LowestOrApart (group_count vt) i.vd i.vs2
   pub vs1 : i.form ≡ V → LowestOrApart (group_count vt) i.vd i.vs1
-
--- what a legal instruction of a class has
-abbrev pub Follows : Class → (VInstr → Vtype → Type 0) → Type 0
-Follows class fact =
-    (i : VInstr) (vt : Vtype) (vstart : ℕ) → IsTrue (is_vill_or_supported vt) → is_legal i vt vstart ≡ true → class_of i.op ≡ class → fact i vt
 
 -- a plain instruction has a third such group in vs2
 abbrev pub PlainLaw : Type 0

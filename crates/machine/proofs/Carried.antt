@@ -1,16 +1,17 @@
 -- Each kind of instruction, carried out by its method, is a step.
 use Rattle.std.proofs.Common.{◌≡◌, ℕ, Bool, true, false, List, [], Option, Some, None, refl, sym, ap, ◌∙◌, append-nil, arith}
-use Rattle.std.specs.Prelude.{if◌then◌else◌, nat_eq, is_some}
+use Rattle.std.specs.Prelude.{if◌then◌else◌, nat_eq}
 use Rattle.std.specs.Io.KnownBytes.{Appends, Consumes}
 use Rattle.cape_io.specs.Devices.{PutsFront}
 use Rattle.cam_chain.specs.ChainValue.{slices_of}
 use Rattle.micro_ir.specs.declared.op.MicroOp.{MicroOp}
-use Rattle.micro_ir.specs.Replay.{replay}
 use Rattle.rv32_decode.specs.declared.instruction.Instr.{Instr}
 use Rattle.rvv_decode.specs.declared.instruction.ConfigOp.{ConfigOp}
 use Rattle.rvv_decode.specs.declared.instruction.Form.{Form}
 use Rattle.rvv_decode.specs.declared.instruction.OpiOp.{OpiOp}
-use Rattle.rvv_decode.specs.declared.instruction.OpiOp.TheVariants.{Vadd, Vsub, Vrsub, Vadc, Vsbc, Vmadc, Vmsbc, Vand, Vor, Vxor, Vmseq, Vmsne, Vmsltu, Vmslt, Vmsleu, Vmsle, Vmsgtu, Vmsgt, Vminu, Vmin, Vmaxu, Vmax, Vmerge, VmvV}
+use Rattle.rvv_decode.specs.declared.instruction.OpiOp.TheVariants.{Vrgather, Vrgatherei16}
+use Rattle.rvv_decode.specs.declared.instruction.OpmOp.{OpmOp}
+use Rattle.rvv_decode.specs.declared.instruction.OpmOp.TheVariants.{VmvXS, Vcompress, Viota}
 use Rattle.rvv_decode.specs.declared.instruction.VInstr.{VInstr}
 use Rattle.rvv_decode.specs.declared.instruction.VOp.{VOp}
 use Rattle.rvv_decode.specs.declared.instruction.VOp.TheVariants.{Opi, Opm, Config, Memory}
@@ -20,14 +21,14 @@ use Rattle.rvv_meaning.specs.declared.Flow.{Flow}
 use Rattle.rvv_meaning.specs.declared.Flow.TheVariants.{Call as Calls}
 use Rattle.rvv_meaning.specs.declared.Next.TheVariants.{Stop, Perform}
 use Rattle.rvv_meaning.specs.Calls.{first, named_call, asked_by, put_by}
-use Rattle.rvv_meaning.specs.States.{Core, next, core_after, call_at, call_by, asked, puts, effect_at, with_effect, after_flow, executed_vector, called, cfg_at, configured, elementwise, reg}
-use Rattle.rvv_meaning.specs.Arithmetic.{operation_for}
-use Rattle.rvv_meaning.specs.Vectors.{scalar_operand, on_elements_is_built}
+use Rattle.rvv_meaning.specs.States.{Core, next, core_after, call_at, call_by, asked, puts, effect_at, with_effect, after_flow, executed_vector, called, cfg_at, reg}
+use Rattle.rvv_meaning.specs.Operations.{operation_for}
+use Rattle.rvv_meaning.specs.Vectors.{scalar_operand, is_on_elements}
 use Rattle.rvv_meaning.proofs.Calling.{Rests, executed-rests}
 use Rattle.guest_env.specs.Inputs.{Takes}
 use Rattle.guest_env.specs.Outputs.{bytes_out, bytes_err}
-use Rattle.vec_exec.specs.Programs.{prog, is_engine, is_engine_op, is_opi_engine}
-use Rattle.machine.specs.Moments.{Held, program_at, control_by}
+use Rattle.vec_exec.specs.Programs.{prog, is_engine, is_engine_op, is_opi_engine, is_opm_engine}
+use Rattle.machine.specs.Moments.{Held, program_at, slices_by, control_by}
 use Rattle.machine.specs.Views.{gains_out, gains_err}
 use Rattle.machine.specs.Carrying.{Carries, Fails}
 
@@ -92,42 +93,28 @@ call_puts i c there is = rw (there, is) refl
 pub emptied : (old new : Held) (core : Core) → old.last ≡ [] → new ≡ record old { core = core } → new ≡ record old { core = core; last = [] }
 emptied old new core none is = is ∙ ap (λ (ops : List MicroOp). record old { core = core; last = ops }) none
 
-opi-runs : (op : OpiOp) (form : Form) → is_some (operation_for op) ≡ true → is_opi_engine op form ≡ true
+opi-runs : (op : OpiOp) (form : Form) → is_on_elements (Opi op) ≡ true → is_opi_engine op form ≡ true
 unfolding operation_for
-opi-runs Vadd form on = refl
-opi-runs Vsub form on = refl
-opi-runs Vrsub form on = refl
-opi-runs Vadc form on = refl
-opi-runs Vsbc form on = refl
-opi-runs Vmadc form on = refl
-opi-runs Vmsbc form on = refl
-opi-runs Vand form on = refl
-opi-runs Vor form on = refl
-opi-runs Vxor form on = refl
-opi-runs Vmseq form on = refl
-opi-runs Vmsne form on = refl
-opi-runs Vmsltu form on = refl
-opi-runs Vmslt form on = refl
-opi-runs Vmsleu form on = refl
-opi-runs Vmsle form on = refl
-opi-runs Vmsgtu form on = refl
-opi-runs Vmsgt form on = refl
-opi-runs Vminu form on = refl
-opi-runs Vmin form on = refl
-opi-runs Vmaxu form on = refl
-opi-runs Vmax form on = refl
-opi-runs Vmerge form on = refl
-opi-runs VmvV form on = refl
-opi-runs _ form on = cc
+opi-runs Vrgather form on = cc
+opi-runs Vrgatherei16 form on = cc
+opi-runs _ form on = refl
+
+opm-runs : (op : OpmOp) → is_on_elements (Opm op) ≡ true → is_opm_engine op ≡ true
+unfolding operation_for
+opm-runs VmvXS on = cc
+opm-runs Vcompress on = cc
+opm-runs Viota on = cc
+opm-runs _ on = refl
 
 -- an instruction on elements that is built has a program
-engine-runs : (op : VOp) (form : Form) → on_elements_is_built op ≡ true → is_engine_op op form ≡ true
+engine-runs : (op : VOp) (form : Form) → is_on_elements op ≡ true → is_engine_op op form ≡ true
+unfolding operation_for
 engine-runs (Opi op) form on = opi-runs op form on
-engine-runs (Opm op) form on = cc
+engine-runs (Opm op) form on = opm-runs op on
 engine-runs (Config op) form on = cc
 engine-runs (Memory op) form on = cc
 
-runs-program : (i : VInstr) → on_elements_is_built i.op ≡ true → is_engine i ≡ true
+runs-program : (i : VInstr) → is_on_elements i.op ≡ true → is_engine i ≡ true
 unfolding is_engine
 runs-program i on = engine-runs i.op i.form on
 
@@ -148,7 +135,7 @@ module _ (merged : Bool) (old new : Held) (left out err : Option (List ℕ)) whe
       rw is record { core = rw (there, goes) refl; slices = rw there refl; last = rw there refl; control = rw there refl; live = refl; took = quiet_takes old.core left none; gained_out = quiet_out merged old.core out none; gained_err = quiet_err merged old.core err none }
 
   -- a configuration
-  pub carries-configuration : (op : ConfigOp) (i : VInstr) → next old.core ≡ Perform (Vector i) → i.op ≡ Config op → new ≡ record old { core = configured op i old.core; last = [] }
+  pub carries-configuration : (op : ConfigOp) (i : VInstr) → next old.core ≡ Perform (Vector i) → i.op ≡ Config op → new ≡ record old { core = executed_vector i old.core; last = [] }
       → Carries merged old new [] left left out out err err
   unfolding core_after program_at call_at is_engine
   carries-configuration op i there named is =
@@ -156,9 +143,9 @@ module _ (merged : Bool) (old new : Held) (left out err : Option (List ℕ)) whe
       rw is record { core = rw (there, named) refl; slices = rw (there, named) refl; last = rw (there, named) refl; control = rw (there, named) refl; live = refl; took = quiet_takes old.core left none; gained_out = quiet_out merged old.core out none; gained_err = quiet_err merged old.core err none }
 
   -- an instruction on elements
-  pub carries-program : (i : VInstr) → next old.core ≡ Perform (Vector i) → on_elements_is_built i.op ≡ true
-      → new.core ≡ elementwise i old.core
-      → slices_of new.chain ≡ replay (prog i (cfg_at old.core) (scalar_operand i old.core.regs)) (record (slices_of old.chain) { num = 0 })
+  pub carries-program : (i : VInstr) → next old.core ≡ Perform (Vector i) → is_on_elements i.op ≡ true
+      → new.core ≡ executed_vector i old.core
+      → slices_of new.chain ≡ slices_by (Some (prog i (cfg_at old.core) (scalar_operand i old.core.regs))) (slices_of old.chain)
       → new.last ≡ prog i (cfg_at old.core) (scalar_operand i old.core.regs)
       → new.control ≡ control_by (Some (prog i (cfg_at old.core) (scalar_operand i old.core.regs))) (slices_of old.chain) old.control
       → new.live ≡ old.live
@@ -168,7 +155,7 @@ module _ (merged : Bool) (old new : Held) (left out err : Option (List ℕ)) whe
       let none : call_at old.core ≡ None = rw there refl in
       let runs = runs-program i on in
       record {
-        core = core ∙ rw there (sym (works i.op on));
+        core = core ∙ rw there refl;
         slices = slices ∙ rw (there, runs) refl;
         last = last ∙ rw (there, runs) refl;
         control = control ∙ rw (there, runs) refl;
@@ -177,12 +164,6 @@ module _ (merged : Bool) (old new : Held) (left out err : Option (List ℕ)) whe
         gained_out = quiet_out merged old.core out none;
         gained_err = quiet_err merged old.core err none;
       }
-    where
-      works : (op : VOp) → on_elements_is_built op ≡ true → executed_vector op i old.core ≡ elementwise i old.core
-      works (Opi op) on = refl
-      works (Opm op) on = refl
-      works (Config op) on = cc
-      works (Memory op) on = refl
 
 -- the bytes that the sinks gain of a call
 pub call_gains_out : (merged : Bool) (i : Instr) (c : Core) → next c ≡ Perform (Scalar i) → (effect_at i c).flow ≡ Calls → gains_out merged c ≡ bytes_out merged (first c.regs) (put_by (named_call c.regs) c.regs c.mem)

@@ -1,6 +1,7 @@
 -- The configuration that a machine holds is valid, and what a vector instruction leaves of the counts.
-use Rattle.std.proofs.Common.{◌≡◌, ◌+◌, ◌<◌, ◌≤◌, true, ◌⊎◌, inl, inr, refl, arith}
-use Rattle.std.specs.Prelude.{IsTrue, nat_le, nat_lt}
+use Rattle.std.proofs.Common.{◌≡◌, ◌+◌, ◌<◌, ◌≤◌, true, ◌⊎◌, inl, inr, [], Option, None, Some, refl, ap, arith}
+use Rattle.std.specs.Option.{option_map, option_map_or}
+use Rattle.std.specs.Prelude.{IsTrue, is_some, nat_le, nat_lt}
 use Rattle.std.proofs.lemmas.Bool.Decides.{nat_tests}
 use Rattle.rvv_decode.specs.declared.instruction.ConfigOp.{ConfigOp}
 use Rattle.rvv_decode.specs.declared.instruction.OpiOp.{OpiOp}
@@ -11,8 +12,9 @@ use Rattle.rvv_decode.specs.declared.instruction.VOp.{VOp}
 use Rattle.rvv_decode.specs.declared.instruction.VOp.TheVariants.{Opi, Opm, Config, Memory as Moves}
 use Rattle.vtype_cfg.specs.declared.configuration.Cfg.{Cfg}
 use Rattle.vtype_cfg.specs.Settings.{is_legal_vlen, is_vill_or_supported, is_valid, vlmax}
-use Rattle.rvv_meaning.specs.States.{Core, configured, elementwise}
-use Rattle.rvv_meaning.specs.Vectors.{is_built, on_elements_is_built}
+use Rattle.rvv_meaning.specs.Operations.{Operation, operation_for, on_elements}
+use Rattle.rvv_meaning.specs.States.{Core, cfg_at, after_flow, with_vector_effect, executed_vector}
+use Rattle.rvv_meaning.specs.Vectors.{VectorEffect, elements, scalar_operand, is_built, is_on_elements, configuration_effect, elements_effect, left_effect, no_effect, effect_by, vector_effect}
 
 pub valid-cfg : (c : Cfg) → IsTrue (is_legal_vlen c.vlen) → IsTrue (is_vill_or_supported c.vtype) → c.vl ≤ vlmax c.vtype c.vlen → c.vstart < c.vlen → c.vxrm ≤ 3 → IsTrue (is_valid c)
 unfolding is_valid
@@ -23,7 +25,7 @@ valid-cfg c legal setting most starts rounding =
     rw (legal, setting, few, inside, mode) refl
 
 -- of what is built all but the configurations is on elements
-pub elements-built : (op : VOp) → is_built op ≡ true → ((o : OpiOp) × (op ≡ Opi o)) ⊎ (((o : OpmOp) × (op ≡ Opm o)) ⊎ ((o : MemoryOp) × (op ≡ Moves o))) → on_elements_is_built op ≡ true
+pub elements-built : (op : VOp) → is_built op ≡ true → ((o : OpiOp) × (op ≡ Opi o)) ⊎ (((o : OpmOp) × (op ≡ Opm o)) ⊎ ((o : MemoryOp) × (op ≡ Moves o))) → is_on_elements op ≡ true
 elements-built (Opi o) built which = built
 elements-built (Opm o) built which = built
 elements-built (Config o) built (inl (x, is)) = cc
@@ -31,19 +33,64 @@ elements-built (Config o) built (inr (inl (x, is))) = cc
 elements-built (Config o) built (inr (inr (x, is))) = cc
 elements-built (Moves o) built which = built
 
+-- ---- what a vector instruction leaves
+
 module _ (i : VInstr) (c : Core) where
-  pub configured-retires : (op : ConfigOp) → (configured op i c).csrs.retired ≡ c.csrs.retired + 1
-  unfolding configured
-  configured-retires op = refl
+  -- the machine with an effect
+  abbrev left_with : VectorEffect → Core
+  left_with e = after_flow e.flow (with_vector_effect e c) []
 
-  pub configured-length : (op : ConfigOp) → (configured op i c).csrs.vlen ≡ c.csrs.vlen
-  unfolding configured
-  configured-length op = refl
+  -- it retires, and a vector register is as long as before
+  abbrev Retires : VectorEffect → Type 0
+  Retires e = ((left_with e).csrs.retired ≡ c.csrs.retired + 1) × ((left_with e).csrs.vlen ≡ c.csrs.vlen)
 
-  pub elementwise-retires : (elementwise i c).csrs.retired ≡ c.csrs.retired + 1
-  unfolding elementwise
-  elementwise-retires = refl
+  retires-for : (o : Option Operation) → Retires (option_map_or (left_effect i c.regs c.csrs c.mem c.vectors c.policy) (option_map (λ x. elements (on_elements i (cfg_at c) (scalar_operand i c.regs) x)) o) (no_effect i c.regs c.csrs c.mem c.vectors c.policy))
+  unfolding elements_effect
+  retires-for None = (refl, refl)
+  retires-for (Some o) = (refl, refl)
 
-  pub elementwise-length : (elementwise i c).csrs.vlen ≡ c.csrs.vlen
-  unfolding elementwise
-  elementwise-length = refl
+  retires-by : (op : VOp) → Retires (effect_by i c.regs c.csrs c.mem c.vectors c.policy op)
+  unfolding configuration_effect
+  retires-by (Config op) = (refl, refl)
+  retires-by (Opi op) = retires-for (operation_for (Opi op))
+  retires-by (Opm op) = retires-for (operation_for (Opm op))
+  retires-by (Moves op) = retires-for (operation_for (Moves op))
+
+  pub vector-retires : (executed_vector i c).csrs.retired ≡ c.csrs.retired + 1
+  unfolding vector_effect
+  vector-retires = (retires-by i.op).0
+
+  pub vector-length : (executed_vector i c).csrs.vlen ≡ c.csrs.vlen
+  unfolding vector_effect
+  vector-length = (retires-by i.op).1
+
+  -- a configuration
+  pub configured-is : (op : ConfigOp) → i.op ≡ Config op → executed_vector i c ≡ left_with (configuration_effect i c.regs c.csrs c.mem c.vectors c.policy op)
+  unfolding vector_effect
+  configured-is op named = rw named refl
+
+  -- an instruction on elements
+  elements-by : (o : Operation) (op : VOp) → operation_for op ≡ Some o
+      → effect_by i c.regs c.csrs c.mem c.vectors c.policy op ≡ elements_effect i c.regs c.csrs c.mem c.vectors c.policy (on_elements i (cfg_at c) (scalar_operand i c.regs) o)
+  unfolding operation_for
+  elements-by o (Config op) is = cc
+  elements-by o (Opi op) is = rw is refl
+  elements-by o (Opm op) is = cc
+  elements-by o (Moves op) is = cc
+
+  pub on-elements-is : (o : Operation) → operation_for i.op ≡ Some o
+      → executed_vector i c ≡ left_with (elements_effect i c.regs c.csrs c.mem c.vectors c.policy (on_elements i (cfg_at c) (scalar_operand i c.regs) o))
+  unfolding vector_effect
+  on-elements-is o is = ap left_with (elements-by o i.op is)
+
+-- the operation of an instruction on elements
+pub record OperationOf (op : VOp) : Type 0 where
+  pub operation : Operation
+  pub is : operation_for op ≡ Some operation
+
+pub operation-of : (op : VOp) → is_on_elements op ≡ true → OperationOf op
+operation-of op on = from (operation_for op) refl on
+  where
+    from : (o : Option Operation) → operation_for op ≡ o → is_some o ≡ true → OperationOf op
+    from (Some o) is on = record { operation = o; is = is }
+    from None is on = cc

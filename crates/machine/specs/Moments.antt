@@ -1,10 +1,10 @@
 -- Moments of a machine: its state with the state of its slices and the program of its last step.
-use Rattle.std.specs.Prelude.{ℕ, zero, suc, ◌/◌, Bool, false, List, [], Option, Some, None, if◌then◌else◌}
+use Rattle.std.specs.Prelude.{ℕ, zero, suc, ◌/◌, Bool, List, [], Option, Some, None, if◌then◌else◌}
 use Rattle.bit_rows.specs.Slices.{Slices, blank}
 use Rattle.cam_chain.specs.ChainValue.{ChainValue}
 use Rattle.micro_ir.specs.declared.control.Control.{Control}
 use Rattle.micro_ir.specs.declared.op.MicroOp.{MicroOp}
-use Rattle.micro_ir.specs.Replay.{replay}
+use Rattle.micro_ir.specs.Replay.{replay, clips}
 use Rattle.rvv_meaning.specs.declared.Meaning.TheVariants.{Scalar, Vector}
 use Rattle.rvv_meaning.specs.declared.Next.{Next}
 use Rattle.rvv_meaning.specs.declared.Next.TheVariants.{Stop, Perform}
@@ -37,17 +37,17 @@ program_of (Perform (Vector i)) c = if is_engine i then Some (prog i (cfg_at c) 
 unfoldable pub program_at : Core → Option (List MicroOp)
 program_at c = program_of (next c) c
 
--- The slices after a step. A program is replayed from the control number 0; no other instruction that is built writes
--- a vector register, so the slices stay.
+-- The slices after a step. A program is replayed from the control number 0, which belongs to the replay; no other
+-- instruction that is built writes a vector register, so the slices stay.
 abbrev pub slices_by : Option (List MicroOp) → Slices → Slices
 slices_by None s = s
-slices_by (Some ops) s = replay ops (record s { num = 0 })
+slices_by (Some ops) s = record (replay ops (record s { num = 0 })) { num = 0 }
 
--- The control numbers after a step: those that a program leaves from the control number 0, and as they were where there is
--- none. No operation that is built finds an element clipped.
+-- The control numbers after a step: those that a program leaves from the control number 0, with whether it found an element
+-- clipped, and as they were where there is none.
 abbrev pub control_by : Option (List MicroOp) → Slices → Control → Control
 control_by None s k = k
-control_by (Some ops) s k = record { num = (replay ops (record s { num = 0 })).num; clip = false }
+control_by (Some ops) s k = record { num = (replay ops (record s { num = 0 })).num; clip = clips ops (record s { num = 0 }) }
 
 -- the program that a step leaves: none where it planned none
 abbrev pub last_by : Option (List MicroOp) → List MicroOp

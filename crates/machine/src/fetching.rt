@@ -4,12 +4,12 @@ ghost use Rattle.rvv_decode.specs.Rows.{means as means_vector};
 ghost use Rattle.rvv_meaning.specs.States.{next, next_for, next_vector, trap};
 ghost use Rattle.machine.specs.Fields.{NextFits};
 
-use crate::built::is_built;
 use crate::parts::Machine;
 use guest_mem::Trap;
 use rv32_decode::decode;
 use rvv_decode::decode_v;
 use rvv_meaning::{Meaning, Mode, Next};
+use vec_exec::built;
 use vtype_cfg::{Vtype, legal};
 
 // The causes of traps: a fetch without permission, and an illegal word (RISC-V privileged specification, mcause).
@@ -41,7 +41,7 @@ impl Machine {
         if !legal(&i, &vtype, self.csrs.vstart, self.csrs.vlen) {
             return Next::Stop(self.trap(ILLEGAL_WORD, word));
         }
-        if !is_built(i.op) {
+        if !built(&i) {
             return Next::Stop(Mode::Unbuilt);
         }
         Next::Perform(Meaning::Vector(i))

@@ -3,7 +3,6 @@
 #![tactic(auto)]
 
 mod answers;
-mod built;
 mod fetching;
 mod parts;
 mod steps;

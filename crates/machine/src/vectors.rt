@@ -1,16 +1,16 @@
 // Vector instructions: configurations, and programs of micro-operations.
 ghost use Rattle.std.specs.Prelude.{◌≡◌, ◌+◌, ◌<◌, ◌≤◌, ◌^◌, ℕ, List, [], Some, true, length, IsTrue, Bool, Option};
 ghost use Rattle.cam_chain.specs.ChainValue.{slices_of};
-ghost use Rattle.micro_ir.specs.Replay.{replay};
 ghost use Rattle.rvv_meaning.specs.declared.Meaning.TheVariants.{Vector};
 ghost use Rattle.rvv_meaning.specs.declared.Next.TheVariants.{Perform};
 ghost use Rattle.rvv_decode.specs.Ranges.{IsInRange};
 ghost use Rattle.vtype_cfg.specs.Settings.{is_valid};
-ghost use Rattle.rvv_meaning.specs.States.{next, cfg_at, configured, elementwise};
-ghost use Rattle.rvv_meaning.specs.Vectors.{length_asked, length_of_register, setting_asked, scalar_operand, on_elements_is_built};
+ghost use Rattle.rvv_decode.specs.declared.instruction.VOp.TheVariants.{Config};
+ghost use Rattle.rvv_meaning.specs.States.{next, cfg_at, executed_vector};
+ghost use Rattle.rvv_meaning.specs.Vectors.{length_asked, length_of_register, setting_asked, scalar_operand, is_on_elements};
 ghost use Rattle.vec_exec.specs.Programs.{prog};
 ghost use Rattle.machine.specs.Fields.{VectorFits};
-ghost use Rattle.machine.specs.Moments.{control_by};
+ghost use Rattle.machine.specs.Moments.{slices_by, control_by};
 ghost use Rattle.machine.specs.Carrying.{Carries};
 
 use crate::parts::{CLEARED, Machine, WORD_BYTES};
@@ -73,9 +73,10 @@ impl Machine {
 
     // A configuration of the vector unit.
     pub(crate) fn configure(&mut self, op: ConfigOp, i: &VInstr)
+        requires named { i.now.op ≡ Config op }
         requires fields { IsInRange i.now }
         requires count { self.old.core.csrs.retired < 2 ^ 63 }
-        ensures { self.new ≡ record self.old { core = configured op i.now self.old.core } }
+        ensures { self.new ≡ record self.old { core = executed_vector i.now self.old.core } }
     {
         let asked = self.length_asked(op, i);
         let setting = self.setting_asked(op, i);
@@ -102,11 +103,11 @@ impl Machine {
     // An instruction on elements, which is planned into the empty buffer and replayed on the slices.
     fn run_program(&mut self, i: &VInstr)
         requires fits { VectorFits self.old.core i.now }
-        requires elements { on_elements_is_built i.now.op ≡ true }
+        requires elements { is_on_elements i.now.op ≡ true }
         requires empty { self.old.last ≡ [] }
         requires count { self.old.core.csrs.retired < 2 ^ 63 }
-        ensures core { self.new.core ≡ elementwise i.now self.old.core }
-        ensures slices { slices_of self.new.chain ≡ replay (prog i.now (cfg_at self.old.core) (scalar_operand i.now self.old.core.regs)) (record (slices_of self.old.chain) { num = 0 }) }
+        ensures core { self.new.core ≡ executed_vector i.now self.old.core }
+        ensures slices { slices_of self.new.chain ≡ slices_by (Some (prog i.now (cfg_at self.old.core) (scalar_operand i.now self.old.core.regs))) (slices_of self.old.chain) }
         ensures last { self.new.last ≡ prog i.now (cfg_at self.old.core) (scalar_operand i.now self.old.core.regs) }
         ensures control { self.new.control ≡ control_by (Some (prog i.now (cfg_at self.old.core) (scalar_operand i.now self.old.core.regs))) (slices_of self.old.chain) self.old.control }
         ensures live { self.new.live ≡ self.old.live }
@@ -118,6 +119,7 @@ impl Machine {
         self.control = CLEARED;
         replay(&mut self.chain, &mut self.control, &self.buf, first);
         self.csrs.vstart = 0;
+        self.csrs.vxsat |= self.control.clip;
         self.pc = self.pc.wrapping_add(WORD_BYTES);
         self.csrs.retired += 1;
     }

@@ -9,3 +9,7 @@ pub mod TableLists
 pub mod Shifted
 pub mod TableEffects
 pub mod PieceLists
+pub mod Scalars
+pub mod Committed
+pub mod Measuring
+pub mod Valued

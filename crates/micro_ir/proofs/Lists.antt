@@ -1,12 +1,12 @@
 -- Lists of operations, joined or one operation longer.
-use Rattle.std.proofs.Common.{◌≡◌, ℕ, ◌+◌, ◌*◌, ◌<◌, ◌≤◌, List, [], ◌∷◌, ◌++◌, zero, suc, length, get_or, take, refl, sym, ◌∙◌, ap, arith, add_assoc, zero-add, add-zero}
+use Rattle.std.proofs.Common.{◌≡◌, ℕ, ◌+◌, ◌*◌, ◌<◌, ◌≤◌, Bool, true, false, ◌||◌, List, [], ◌∷◌, ◌++◌, zero, suc, length, get_or, take, refl, sym, ◌∙◌, ap, arith, add_assoc, zero-add, add-zero}
 use Rattle.std.proofs.lemmas.List.{take_more}
 use Rattle.bit_rows.specs.Slices.{Slices}
 use Rattle.cam_chain.specs.ChainValue.{no_counts}
 use Rattle.cam_chain.specs.declared.counts.Counts.{Counts}
 use Rattle.micro_ir.specs.declared.op.MicroOp.{MicroOp}
 use Rattle.micro_ir.specs.declared.op.MicroOp.TheVariants.{Search, Update, Pass, Window, Free, PackMask}
-use Rattle.micro_ir.specs.Replay.{effect, replay, IsInRange, AllInRange, counts_in, counts_and, tally}
+use Rattle.micro_ir.specs.Replay.{effect, replay, finds_clipped, clips, IsInRange, AllInRange, counts_in, counts_and, tally}
 
 -- the replay of two lists, one after the other
 pub replay-append : (xs ys : List MicroOp) (s : Slices) → replay (xs ++ ys) s ≡ replay ys (replay xs s)
@@ -21,6 +21,30 @@ replay-one op s = refl
 -- the replay of one operation more
 pub replay_more : (ops : List MicroOp) (i : ℕ) (op : MicroOp) (s : Slices) → i < length ops → op ≡ get_or ops i op → replay (take (i + 1) ops) s ≡ effect op (replay (take i ops) s)
 replay_more ops i op s h e = rw (take_more ops i op h, ← e) (replay-append (take i ops) (op ∷ []) s ∙ replay-one op (replay (take i ops) s))
+
+-- whether two lists find a clipped element, one after the other
+pub clips-append : (xs ys : List MicroOp) (s : Slices) → clips (xs ++ ys) s ≡ clips xs s || clips ys (replay xs s)
+unfolding clips replay
+clips-append [] ys s = refl
+clips-append (x ∷ xs) ys s = ap (λ (b : Bool). finds_clipped x s || b) (clips-append xs ys (effect x s)) ∙ sym (either (finds_clipped x s) (clips xs (effect x s)) (clips ys (replay xs (effect x s))))
+  where
+    either : (a b c : Bool) → ((a || b) || c) ≡ (a || (b || c))
+    either true b c = refl
+    either false b c = refl
+
+-- no list of the operations that are built finds one
+finds-none : (op : MicroOp) (s : Slices) → finds_clipped op s ≡ false
+finds-none (Search subs keys join) s = refl
+finds-none (Update subs row bit) s = refl
+finds-none (Pass up times) s = refl
+finds-none (Window row width first from to masked) s = refl
+finds-none (Free row width first from to masked tail off) s = refl
+finds-none (PackMask from under to width first) s = refl
+
+pub clips-none : (ops : List MicroOp) (s : Slices) → clips ops s ≡ false
+unfolding clips
+clips-none [] s = refl
+clips-none (op ∷ ops) s = rw (finds-none op s) (clips-none ops (effect op s))
 
 -- counts are added in any grouping
 pub counts_and-assoc : (a b c : Counts) → counts_and a (counts_and b c) ≡ counts_and (counts_and a b) c

@@ -8,3 +8,5 @@ pub mod WorkRows
 pub mod Pieces
 pub mod Effects
 pub mod Tables
+pub mod Kinds
+pub mod Measures

@@ -1,10 +1,11 @@
 -- The effect of a list of micro-operations, and how many searches, updates and passes it makes.
-use Rattle.std.specs.Prelude.{◌≡◌, ℕ, ◌+◌, ◌<◌, ◌≤◌, true, List, [], ◌∷◌}
+use Rattle.std.specs.Prelude.{◌≡◌, ℕ, ◌+◌, ◌<◌, ◌≤◌, Bool, true, false, ◌||◌, List, [], ◌∷◌}
 use Rattle.bit_rows.specs.Slices.{Slices}
 use Rattle.cam_chain.specs.Slices.{searched, updated, passed}
 use Rattle.cam_chain.specs.ChainValue.{ChainValue, slices_of, no_counts}
 use Rattle.cam_chain.specs.declared.counts.Counts.{Counts}
 use Rattle.steer_net.specs.Network.{windowed, freed, packed, is_width, MaskReaches, PackReaches}
+use Rattle.micro_ir.specs.declared.control.Control.{Control}
 use Rattle.micro_ir.specs.declared.op.MicroOp.{MicroOp}
 use Rattle.micro_ir.specs.declared.op.MicroOp.TheVariants.{Search, Update, Pass, Window, Free, PackMask}
 
@@ -22,9 +23,27 @@ unfoldable pub replay : List MicroOp → Slices → Slices
 replay [] s = s
 replay (op ∷ ops) s = replay ops (effect op s)
 
+-- whether an operation finds an active element whose result was clipped; no operation that is built looks for one
+abbrev pub finds_clipped : MicroOp → Slices → Bool
+finds_clipped (Search subs keys join) s = false
+finds_clipped (Update subs row bit) s = false
+finds_clipped (Pass up times) s = false
+finds_clipped (Window row width first from to masked) s = false
+finds_clipped (Free row width first from to masked tail off) s = false
+finds_clipped (PackMask from under to width first) s = false
+
+-- whether an operation of a list does, in its order; what it finds changes no slice
+unfoldable pub clips : List MicroOp → Slices → Bool
+clips [] s = false
+clips (op ∷ ops) s = finds_clipped op s || clips ops (effect op s)
+
 -- the state of a chain beside its control number
 abbrev pub state_of : ChainValue → ℕ → Slices
 state_of chain num = record (slices_of chain) { num = num }
+
+-- the control numbers after a list
+abbrev pub control_after : List MicroOp → Control → ChainValue → Control
+control_after ops c chain = record { num = (replay ops (state_of chain c.num)).num; clip = c.clip || clips ops (state_of chain c.num) }
 
 -- A chain of so many columns can run the operation: rows are below 64, widths are built, a pass moves tags by 1 to 31
 -- subarrays, and the bits of a mask that an operation reads or packs lie in its register.

@@ -1,5 +1,5 @@
 ghost use Rattle.std.specs.Prelude.{◌≡◌, ℕ, ◌^◌, ◌<◌, ◌≤◌, take, length};
-ghost use Rattle.micro_ir.specs.Replay.{effect, replay, state_of, IsInRange, AllInRange, counts_in, counts_and, tally};
+ghost use Rattle.micro_ir.specs.Replay.{effect, replay, state_of, control_after, IsInRange, AllInRange, counts_in, counts_and, tally};
 
 use crate::buf::MicroBuf;
 use crate::control::Control;
@@ -8,7 +8,7 @@ use cam_chain::Chain;
 use steer_net::{free, pack_mask, window};
 
 /// Carries out the first `first` operations in their order. The chain counts their searches,
-/// updates and passes. No operation that is built changes a control number.
+/// updates and passes. The control numbers become those that the list leaves.
 pub fn replay(chain: &mut Chain, ctl: &mut Control, buf: &MicroBuf, first: u32)
     requires within { first ≤ length buf.now.ops }
     requires in_range { AllInRange chain.old.columns (take first buf.now.ops) }
@@ -17,7 +17,7 @@ pub fn replay(chain: &mut Chain, ctl: &mut Control, buf: &MicroBuf, first: u32)
     requires passes { chain.old.counts.passes ≤ 2 ^ 99 }
     ensures slices { state_of chain.new ctl.new.num
         ≡ replay (take first buf.now.ops) (state_of chain.old ctl.old.num) }
-    ensures control { ctl.new ≡ ctl.old }
+    ensures control { ctl.new ≡ control_after (take first buf.now.ops) ctl.old chain.old }
     ensures counted { chain.new.counts
         ≡ counts_and chain.old.counts (tally (take first buf.now.ops)) }
     ensures columns { chain.new.columns ≡ chain.old.columns }

@@ -96,7 +96,7 @@ static ROWS: [Row; 4] = [
 ];
 
 // The program of the row's word.
-#[tactic(auto, unfolding(vtype_cfg::specs::Settings::is_valid, vtype_cfg::specs::Settings::is_legal_vlen, vtype_cfg::specs::Settings::legal_vlens, rvv_meaning::specs::Arithmetic::operation_for))]
+#[tactic(auto, unfolding(vtype_cfg::specs::Settings::is_valid, vtype_cfg::specs::Settings::is_legal_vlen, vtype_cfg::specs::Settings::legal_vlens, rvv_meaning::specs::Operations::operation_for))]
 fn program_of(alloc: Global, row: &Row) -> Result<MicroBuf, Fail> {
     let vtype = Vtype::from_bits(row.vtype);
     if row.vl > vtype.vlmax(VLEN) {

@@ -10,8 +10,9 @@ use Rattle.rvv_decode.specs.declared.instruction.Form.TheVariants.{V, X}
 use Rattle.vtype_cfg.specs.declared.configuration.Cfg.{Cfg}
 use Rattle.vtype_cfg.specs.declared.configuration.Policy.{Policy}
 use Rattle.vtype_cfg.specs.declared.configuration.Policy.TheVariants.{Keep, Ones}
+use Rattle.vtype_cfg.specs.Classes.{opi_class, row_of}
 use Rattle.rvv_meaning.specs.Elementwise.{registers_after, registers_by, element_after}
-use Rattle.rvv_meaning.specs.Arithmetic.{elementwise_of, operation_for, on_elements}
+use Rattle.rvv_meaning.specs.Operations.{operation_for, elements_at, on_elements}
 
 -- vxor.vv v4, v2, v1, v0.t
 masked_xor : VInstr
@@ -44,21 +45,21 @@ registers : (destination : List ℕ) → List (List ℕ)
 registers destination = registers_with (0b101 ∷ 0 ∷ 0 ∷ 0 ∷ []) destination
 
 -- prestart, masked off, active, tail
-kept : option_map (λ i. registers_after (setting Keep 1) i (registers (1 ∷ 2 ∷ 3 ∷ 4 ∷ []))) (elementwise_of masked_xor Vxor (setting Keep 1) 0) ≡ Some (registers (1 ∷ 2 ∷ 0x3c ∷ 4 ∷ []))
-unfolding masked_xor setting registers registers_with elementwise_of operation_for on_elements registers_after registers_by element_after element_of with_elements with_bytes tabulate
+kept : option_map (λ i. registers_after (setting Keep 1) i (registers (1 ∷ 2 ∷ 3 ∷ 4 ∷ []))) (option_map (on_elements masked_xor (setting Keep 1) 0) (operation_for (Opi Vxor))) ≡ Some (registers (1 ∷ 2 ∷ 0x3c ∷ 4 ∷ []))
+unfolding masked_xor setting registers registers_with operation_for elements_at opi_class row_of registers_by element_after element_of with_elements with_bytes tabulate
 kept = refl
 
-made_ones : option_map (λ i. registers_after (setting Ones 1) i (registers (1 ∷ 2 ∷ 3 ∷ 4 ∷ []))) (elementwise_of masked_xor Vxor (setting Ones 1) 0) ≡ Some (registers (1 ∷ 0xff ∷ 0x3c ∷ 0xff ∷ []))
-unfolding masked_xor setting registers registers_with elementwise_of operation_for on_elements registers_after registers_by element_after element_of with_elements with_bytes tabulate
+made_ones : option_map (λ i. registers_after (setting Ones 1) i (registers (1 ∷ 2 ∷ 3 ∷ 4 ∷ []))) (option_map (on_elements masked_xor (setting Ones 1) 0) (operation_for (Opi Vxor))) ≡ Some (registers (1 ∷ 0xff ∷ 0x3c ∷ 0xff ∷ []))
+unfolding masked_xor setting registers registers_with operation_for elements_at opi_class row_of registers_by element_after element_of with_elements with_bytes tabulate
 made_ones = refl
 
 -- prestart; active without a carry and with one; tail
-carried : option_map (λ i. registers_after (setting Keep 1) i (registers (1 ∷ 2 ∷ 3 ∷ 4 ∷ []))) (elementwise_of sum_with_carry Vadc (setting Keep 1) 0) ≡ Some (registers (1 ∷ 0x41 ∷ 0x43 ∷ 4 ∷ []))
-unfolding sum_with_carry setting registers registers_with elementwise_of operation_for on_elements registers_after registers_by element_after element_of with_elements with_bytes tabulate
+carried : option_map (λ i. registers_after (setting Keep 1) i (registers (1 ∷ 2 ∷ 3 ∷ 4 ∷ []))) (option_map (on_elements sum_with_carry (setting Keep 1) 0) (operation_for (Opi Vadc))) ≡ Some (registers (1 ∷ 0x41 ∷ 0x43 ∷ 4 ∷ []))
+unfolding sum_with_carry setting registers registers_with operation_for elements_at opi_class row_of registers_by element_after element_of with_elements with_bytes tabulate
 carried = refl
 
 -- active and true, masked off, active and false; the tail has the other bits of v0, whatever vl is
-compared : option_map (λ i. registers_after (setting Ones 0) i (registers (1 ∷ 2 ∷ 3 ∷ 4 ∷ []))) (elementwise_of masked_less Vmslt (setting Ones 0) 0x32)
+compared : option_map (λ i. registers_after (setting Ones 0) i (registers (1 ∷ 2 ∷ 3 ∷ 4 ∷ []))) (option_map (on_elements masked_less (setting Ones 0) 0x32) (operation_for (Opi Vmslt)))
     ≡ Some (registers_with (0b11111011 ∷ 0xff ∷ 0xff ∷ 0xff ∷ []) (1 ∷ 2 ∷ 3 ∷ 4 ∷ []))
-unfolding masked_less setting registers registers_with elementwise_of operation_for on_elements registers_after registers_by element_after element_of with_mask with_bytes tabulate
+unfolding masked_less setting registers registers_with operation_for elements_at opi_class row_of registers_by element_after element_of with_mask with_bytes tabulate
 compared = refl

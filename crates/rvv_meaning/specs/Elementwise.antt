@@ -1,11 +1,11 @@
 -- What an instruction that writes elements leaves in the vector registers (vector extension 1.0, sections 3.4.3 and 5.3 to
 -- 5.4). It is said once for all such instructions: each says which elements it writes, and the value of each.
-use Rattle.std.specs.Prelude.{◌≡◌, ℕ, ◌/◌, Bool, true, false, cond, ◌&&◌, ◌||◌, eqb, List}
+use Rattle.std.specs.Prelude.{◌≡◌, ℕ, zero, suc, ◌/◌, Bool, true, false, cond, ◌&&◌, ◌||◌, eqb, List}
 use Rattle.std.specs.Int.{from_bool}
 use lib.Dec.{ltb}
 use Rattle.bit_laws.specs.Numbers.{low}
 use Rattle.element_ops.specs.Elements.{element_of, mask_bit_of, with_elements, with_mask}
-use Rattle.element_ops.specs.Places.{Place, prestart, active, masked_off, tail, place_of, freed}
+use Rattle.element_ops.specs.Places.{Place, prestart, active, masked_off, tail, place_of, freed, is_active}
 use Rattle.vtype_cfg.specs.Settings.{vtype_of}
 use Rattle.vtype_cfg.specs.declared.configuration.Cfg.{Cfg}
 use Rattle.vtype_cfg.specs.declared.configuration.Policy.{Policy}
@@ -19,7 +19,7 @@ cfg_of csrs policy = record { vtype = vtype_of csrs.vtype; vl = csrs.vl; vstart 
 -- An instruction that writes elements of the group of registers from vd on. The width of an element is in bits; an element
 -- of 1 bit is a bit of a mask, which takes one register. The elements run from `from` on and below `len`, usually vstart
 -- and vl. `vl` is vl, or the instruction's own length in its place. `masked` says that elements may be masked off. The
--- value of element e is computed from the registers as they were before the instruction.
+-- value of element e, and whether it was clipped, are computed from the registers as they were before the instruction.
 pub record Elementwise : Type 0 where
   pub vd : ℕ
   pub registers : ℕ
@@ -29,6 +29,7 @@ pub record Elementwise : Type 0 where
   pub vl : ℕ
   pub masked : Bool
   pub value : (v : List (List ℕ)) (e : ℕ) → ℕ
+  pub clipped : (v : List (List ℕ)) (e : ℕ) → Bool
 
 -- the result is a mask
 abbrev pub makes_mask : Elementwise → Bool
@@ -77,10 +78,13 @@ module _ (c : Cfg) (i : Elementwise) (v : List (List ℕ)) where
       (with_elements (size_of c) v i.vd i.registers i.width (λ e. element_after (ones e) e))
 
   -- the registers after the instruction under the policy of the configuration: all free elements become all ones, or none
-  unfoldable pub registers_after : List (List ℕ)
+  abbrev pub registers_after : List (List ℕ)
   registers_after = registers_by (λ e. is_ones c.policy)
 
-  -- Registers that the instruction may leave: each free element may, by itself, be all ones; all else is determined. The
-  -- standard permits each of these values.
-  abbrev pub IsAllowed : List (List ℕ) → Type 0
-  IsAllowed w = (ones : ℕ → Bool) × (w ≡ registers_by ones)
+  -- whether an active element is clipped: one of those below n, and one at all
+  unfoldable pub clips_below : (n : ℕ) → Bool
+  clips_below zero = false
+  clips_below (suc n) = clips_below n || (is_active (place n) && i.clipped v n)
+
+  abbrev pub clips : Bool
+  clips = clips_below i.len

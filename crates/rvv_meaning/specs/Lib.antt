@@ -1,7 +1,8 @@
 -- What a guest program means.
 pub mod Vectors
 pub mod Elementwise
-pub mod Arithmetic
+pub mod Values
+pub mod Operations
 pub mod Calls
 pub mod States
 pub mod Allowed

@@ -6,16 +6,13 @@ use Rattle.rv32_decode.specs.declared.instruction.Instr.{Instr}
 use Rattle.rv32_decode.specs.Rows.{means}
 use Rattle.rvv_meaning.specs.declared.Call.{Call}
 use Rattle.rvv_meaning.specs.declared.Call.TheVariants.{Read, Write, Exit, Break, Close, Seek, Unknown}
-use Rattle.rvv_decode.specs.declared.instruction.ConfigOp.{ConfigOp}
 use Rattle.rvv_decode.specs.declared.instruction.VInstr.{VInstr}
-use Rattle.rvv_decode.specs.declared.instruction.VOp.{VOp}
-use Rattle.rvv_decode.specs.declared.instruction.VOp.TheVariants.{Opi, Opm, Config, Memory as Moves}
 use Rattle.rvv_decode.specs.Rows.{means as means_vector}
 use Rattle.vtype_cfg.specs.declared.configuration.Cfg.{Cfg}
 use Rattle.vtype_cfg.specs.declared.configuration.Policy.{Policy}
 use Rattle.vtype_cfg.specs.declared.vtype.Vtype.{Vtype}
 use Rattle.vtype_cfg.specs.Legality.{is_legal}
-use Rattle.vtype_cfg.specs.Settings.{vtype_of, bits_of, configured as configuration_after}
+use Rattle.vtype_cfg.specs.Settings.{vtype_of}
 use Rattle.rvv_meaning.specs.declared.Meaning.TheVariants.{Scalar, Vector}
 use Rattle.rvv_meaning.specs.declared.Mode.{Mode}
 use Rattle.rvv_meaning.specs.declared.Mode.TheVariants.{Running, Exited, Trapped, Unbuilt}
@@ -24,10 +21,9 @@ use Rattle.rvv_meaning.specs.declared.Next.TheVariants.{Stop, Perform}
 use Rattle.rvv_meaning.specs.declared.Flow.{Flow}
 use Rattle.rvv_meaning.specs.declared.Flow.TheVariants.{Next as GoesOn, Jump, Call as Calls, Trap as Traps}
 use Rattle.rvv_meaning.specs.declared.Csrs.{Csrs}
-use Rattle.rvv_meaning.specs.Elementwise.{cfg_of}
-use Rattle.rvv_meaning.specs.Vectors.{is_built, length_asked, setting_asked, scalar_operand, vectors_after}
+use Rattle.rvv_meaning.specs.Elementwise.{cfg_of, is_ones}
+use Rattle.rvv_meaning.specs.Vectors.{VectorEffect, vector_effect, is_built}
 use Rattle.rvv_meaning.specs.Scalar.{Effect, executed, illegal_instruction}
-use Rattle.rvv_meaning.specs.Scalar.Registers.{written}
 use Rattle.rvv_meaning.specs.Calls.{named_call, exit_code, asked_by, put_by, regs_after, memory_after}
 
 -- What a machine holds: the registers x0 to x31, the place of the next word, the control registers, the guest's memory,
@@ -144,31 +140,23 @@ after_flow (Traps t) c taken = record c { mode = Trapped t }
 abbrev pub executed_scalar : Instr → Core → List ℕ → Core
 executed_scalar i c taken = after_flow (effect_at i c).flow (with_effect (effect_at i c) c) taken
 
--- what a configuration leaves: the new vector type and length, the length in rd, and vstart 0 (vector extension 1.0,
--- section 6)
-abbrev pub set_to : Vtype × ℕ → VInstr → Core → Core
-set_to new i c = advanced (record c { regs = written c.regs i.vd new.1; csrs = record c.csrs { vstart = 0; vl = new.1; vtype = bits_of new.0 } })
+-- the effect of a vector instruction on the machine, and the machine with it: under the policy each free element becomes all
+-- ones, or none does
+abbrev pub vector_effect_at : VInstr → Core → VectorEffect
+vector_effect_at i c = vector_effect i c.regs c.csrs c.mem c.vectors c.policy
 
-unfoldable pub configured : ConfigOp → VInstr → Core → Core
-configured op i c = set_to (configuration_after (vtype_at c) c.csrs.vl (length_asked op i c.regs) (setting_asked op i c.regs) c.csrs.vlen) i c
+abbrev pub with_vector_effect : VectorEffect → Core → Core
+with_vector_effect e c = record c { regs = e.regs; csrs = e.csrs; mem = e.mem; vectors = e.vectors (λ element. is_ones c.policy) }
 
--- what an instruction on elements leaves: the vector registers, and vstart 0
-unfoldable pub elementwise : VInstr → Core → Core
-elementwise i c =
-    advanced (record c { csrs = record c.csrs { vstart = 0 }; vectors = vectors_after i (cfg_at c) (scalar_operand i c.regs) c.vectors })
-
--- what a vector instruction leaves
-abbrev pub executed_vector : VOp → VInstr → Core → Core
-executed_vector (Config op) i c = configured op i c
-executed_vector (Opi op) i c = elementwise i c
-executed_vector (Opm op) i c = elementwise i c
-executed_vector (Moves op) i c = elementwise i c
+-- what a vector instruction leaves; it makes no call
+abbrev pub executed_vector : VInstr → Core → Core
+executed_vector i c = after_flow (vector_effect_at i c).flow (with_vector_effect (vector_effect_at i c) c) []
 
 -- what a step leaves in the machine that took these bytes of the input: a stop changes the mode alone
 abbrev pub carried_out : Next → Core → List ℕ → Core
 carried_out (Stop mode) c taken = record c { mode = mode }
 carried_out (Perform (Scalar i)) c taken = executed_scalar i c taken
-carried_out (Perform (Vector i)) c taken = executed_vector i.op i c
+carried_out (Perform (Vector i)) c taken = executed_vector i c
 
 -- what the machine holds after a step that took these bytes of the input
 unfoldable pub core_after : Core → List ℕ → Core

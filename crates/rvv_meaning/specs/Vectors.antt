@@ -1,18 +1,35 @@
--- What the vector instructions do that are built: configuration, and operations on elements at the same place.
-use Rattle.std.specs.Prelude.{◌==◌, not, ℕ, Bool, true, false, List, Option, None, is_some, slice_index, if◌then◌else◌}
-use Rattle.std.specs.Option.{option_map_or}
+-- What a vector instruction leaves: one effect for all, configurations among them.
+use Rattle.std.specs.Prelude.{◌==◌, not, ◌||◌, ℕ, Bool, true, false, List, Option, None, Some, is_some, slice_index, if◌then◌else◌}
+use Rattle.std.specs.Option.{option_map, option_map_or}
+use Rattle.guest_mem.specs.Pages.{Memory}
 use Rattle.rvv_decode.specs.declared.instruction.ConfigOp.{ConfigOp}
 use Rattle.rvv_decode.specs.declared.instruction.ConfigOp.TheVariants.{Vsetvli, Vsetivli, Vsetvl}
 use Rattle.rvv_decode.specs.declared.instruction.Form.{Form}
 use Rattle.rvv_decode.specs.declared.instruction.Form.TheVariants.{V, X, I}
 use Rattle.rvv_decode.specs.declared.instruction.VInstr.{VInstr}
 use Rattle.rvv_decode.specs.declared.instruction.VOp.{VOp}
-use Rattle.rvv_decode.specs.declared.instruction.VOp.TheVariants.{Opi, Opm, Config, Memory}
+use Rattle.rvv_decode.specs.declared.instruction.VOp.TheVariants.{Config}
 use Rattle.vtype_cfg.specs.declared.configuration.Avl.{Avl}
 use Rattle.vtype_cfg.specs.declared.configuration.Avl.TheVariants.{Given, Max, Keep}
 use Rattle.vtype_cfg.specs.declared.configuration.Cfg.{Cfg}
-use Rattle.rvv_meaning.specs.Arithmetic.{operation_for, elementwise_of}
-use Rattle.rvv_meaning.specs.Elementwise.{Elementwise, registers_after}
+use Rattle.vtype_cfg.specs.declared.configuration.Policy.{Policy}
+use Rattle.vtype_cfg.specs.declared.vtype.Vtype.{Vtype}
+use Rattle.vtype_cfg.specs.Settings.{vtype_of, bits_of, configured}
+use Rattle.rvv_meaning.specs.declared.Csrs.{Csrs}
+use Rattle.rvv_meaning.specs.declared.Flow.{Flow}
+use Rattle.rvv_meaning.specs.declared.Flow.TheVariants.{Next}
+use Rattle.rvv_meaning.specs.Elementwise.{Elementwise, cfg_of, registers_by, clips}
+use Rattle.rvv_meaning.specs.Operations.{operation_for, on_elements}
+use Rattle.rvv_meaning.specs.Scalar.Registers.{written}
+
+-- What a vector instruction leaves: where the program goes on, the scalar registers, the control registers, the memory, and
+-- the vector registers, where `ones` says which of the free elements become all ones, element by element.
+pub record VectorEffect : Type 0 where
+  pub flow : Flow
+  pub regs : List ℕ
+  pub csrs : Csrs
+  pub mem : Memory
+  pub vectors : (ones : ℕ → Bool) → List (List ℕ)
 
 -- how many elements a configuration asks for (vector extension 1.0, section 6.2): an immediate; or what x[rs1] holds where
 -- rs1 is not x0; or all that a group has where rd is not x0; or as many as before
@@ -39,27 +56,75 @@ scalar_in_form I i regs = 0
 abbrev pub scalar_operand : VInstr → List ℕ → ℕ
 scalar_operand i regs = scalar_in_form i.form i regs
 
--- whether an operation is one on elements that is built
-abbrev pub on_elements_is_built : VOp → Bool
-on_elements_is_built (Opi op) = is_some (operation_for op)
-on_elements_is_built (Opm op) = false
-on_elements_is_built (Config op) = false
-on_elements_is_built (Memory op) = false
+-- What an instruction leaves that computes from the vector registers: elements of registers, or the number of a scalar
+-- register (no instruction of the second kind is built yet).
+pub data Left : Type 0 where
+  elements : Elementwise → Left
+  number : ℕ → Left
+
+-- What an instruction leaves of these registers, where its meaning stands here. They are given first, since a length may
+-- depend on them.
+abbrev pub left_by : VOp → VInstr → Cfg → (scalar : ℕ) → (vectors : List (List ℕ)) → Option Left
+left_by op i c scalar vectors = option_map (λ o. elements (on_elements i c scalar o)) (operation_for op)
+
+abbrev pub left_of : VInstr → Cfg → (scalar : ℕ) → (vectors : List (List ℕ)) → Option Left
+left_of i c scalar vectors = left_by i.op i c scalar vectors
+
+-- whether an operation on elements is built
+abbrev pub is_on_elements : VOp → Bool
+is_on_elements op = is_some (operation_for op)
 
 -- whether an instruction is built
 abbrev pub is_built : VOp → Bool
-is_built (Opi op) = is_some (operation_for op)
-is_built (Opm op) = false
 is_built (Config op) = true
-is_built (Memory op) = false
+is_built op = is_on_elements op
 
--- what an instruction does to elements
-abbrev pub operation_of : VOp → VInstr → Cfg → (scalar : ℕ) → Option Elementwise
-operation_of (Opi op) i c scalar = elementwise_of i op c scalar
-operation_of (Opm op) i c scalar = None
-operation_of (Config op) i c scalar = None
-operation_of (Memory op) i c scalar = None
+-- What an instruction finds: the scalar registers, the control registers, the memory, the vector registers, and what becomes
+-- of agnostic elements.
+module _ (i : VInstr) (regs : List ℕ) (csrs : Csrs) (mem : Memory) (vectors : List (List ℕ)) (policy : Policy) where
+  -- the control registers after an instruction that completes: vstart is 0, and vxsat is set where an element was clipped
+  abbrev pub completed : (clipped : Bool) → Csrs
+  completed clipped = record csrs { vstart = 0; vxsat = csrs.vxsat || clipped }
 
--- the vector registers after an instruction with this scalar
-unfoldable pub vectors_after : VInstr → Cfg → (scalar : ℕ) → List (List ℕ) → List (List ℕ)
-vectors_after i c scalar v = option_map_or (λ e. registers_after c e v) (operation_of i.op i c scalar) v
+  -- a configuration: the new vector type and length, and the length in rd (section 6)
+  abbrev pub setting_effect : Vtype × ℕ → VectorEffect
+  setting_effect new = record {
+    flow = Next;
+    regs = written regs i.vd new.1;
+    csrs = record csrs { vstart = 0; vl = new.1; vtype = bits_of new.0 };
+    mem = mem;
+    vectors = λ ones. vectors;
+  }
+
+  unfoldable pub configuration_effect : ConfigOp → VectorEffect
+  configuration_effect op = setting_effect (configured (vtype_of csrs.vtype) csrs.vl (length_asked op i regs) (setting_asked op i regs) csrs.vlen)
+
+  -- an instruction that writes elements of registers
+  unfoldable pub elements_effect : Elementwise → VectorEffect
+  elements_effect e = record {
+    flow = Next;
+    regs = regs;
+    csrs = completed (clips (cfg_of csrs policy) e vectors);
+    mem = mem;
+    vectors = λ ones. registers_by (cfg_of csrs policy) e vectors ones;
+  }
+
+  -- an instruction that writes a number into a scalar register
+  unfoldable pub number_effect : ℕ → VectorEffect
+  number_effect n = record { flow = Next; regs = written regs i.vd n; csrs = completed false; mem = mem; vectors = λ ones. vectors }
+
+  abbrev pub left_effect : Left → VectorEffect
+  left_effect (elements e) = elements_effect e
+  left_effect (number n) = number_effect n
+
+  -- an instruction that is not built: no step carries one out
+  abbrev pub no_effect : VectorEffect
+  no_effect = record { flow = Next; regs = regs; csrs = csrs; mem = mem; vectors = λ ones. vectors }
+
+  -- what the instruction leaves
+  abbrev pub effect_by : VOp → VectorEffect
+  effect_by (Config op) = configuration_effect op
+  effect_by op = option_map_or left_effect (left_by op i (cfg_of csrs policy) (scalar_operand i regs) vectors) no_effect
+
+  unfoldable pub vector_effect : VectorEffect
+  vector_effect = effect_by i.op

@@ -1,4 +1,4 @@
 -- The programs as the code writes them, and what they do.
-pub mod GoodKinds
+pub mod Fits
 pub mod Written
 pub mod Planned

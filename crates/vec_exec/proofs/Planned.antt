@@ -1,98 +1,48 @@
 -- What a plan writes is the program in the frame; what legality says of its rows; and what the program does and costs.
-use Rattle.std.proofs.Common.{◌≡◌, inl, inr, ℕ, zero, suc, ◌+◌, ◌*◌, ◌/◌, ◌<◌, ◌≤◌, Bool, true, false, not, cond, eqb, List, ◌++◌, Option, Some, None, refl, sym, ◌∙◌, ap, subst, arith, ⊎_elim}
+use Rattle.std.proofs.Common.{◌≡◌, inl, inr, ℕ, zero, suc, ◌+◌, ◌*◌, ◌/◌, ◌<◌, ◌≤◌, Bool, true, false, ◌&&◌, not, cond, eqb, List, ◌++◌, Option, Some, None, refl, sym, ◌∙◌, ap, subst, arith, ⊎_elim}
 use Rattle.std.specs.Prelude.{IsTrue, is_some}
-use Rattle.std.specs.Option.{option_map_or, option_map, unwrap_or}
-use Rattle.std.proofs.lemmas.Bool.{and_parts, leb-true, false≢true, cases_Bool}
+use Rattle.std.proofs.lemmas.Bool.{and_parts, leb-true, cases_Bool}
 use Rattle.bit_rows.specs.Slices.{Slices, blank}
 use Rattle.cam_chain.specs.Views.{registers_of}
-use Rattle.cam_chain.specs.declared.counts.Counts.{Counts}
 use Rattle.micro_ir.specs.declared.op.MicroOp.{MicroOp}
-use Rattle.micro_ir.specs.Replay.{replay, tally, AllInRange}
+use Rattle.micro_ir.specs.Kinds.{Realises as RealisesList, Tells}
+use Rattle.micro_ir.specs.Measures.{Measured as ListMeasured}
+use Rattle.micro_ir.specs.Replay.{replay, tally, clips, AllInRange}
 use Rattle.micro_ir.specs.WorkRows.{IsOperandRow}
+use Rattle.micro_ir.proofs.Lists.{clips-none}
+use Rattle.micro_ir.proofs.Valued.{realises-same, tells-same}
 use Rattle.rvv_decode.specs.declared.instruction.Form.{Form}
 use Rattle.rvv_decode.specs.declared.instruction.Form.TheVariants.{V, X, I}
-use Rattle.rvv_decode.specs.declared.instruction.OpiOp.{OpiOp}
-use Rattle.rvv_decode.specs.declared.instruction.OpiOp.TheVariants.{Vadd, Vsub, Vrsub, Vadc, Vsbc, Vmadc, Vmsbc, Vand, Vor, Vxor, Vmseq, Vmsne, Vmsltu, Vmslt, Vmsleu, Vmsle, Vmsgtu, Vmsgt, Vminu, Vmin, Vmaxu, Vmax, Vmerge, VmvV}
 use Rattle.rvv_decode.specs.declared.instruction.VInstr.{VInstr}
-use Rattle.rvv_decode.specs.declared.instruction.VOp.TheVariants.{Opi}
 use Rattle.vtype_cfg.specs.declared.configuration.Cfg.{Cfg}
 use Rattle.vtype_cfg.specs.Settings.{is_legal_vlen, is_vill_or_supported, is_valid, vlmax}
-use Rattle.vtype_cfg.specs.Classes.{Class, class_of, opi_class, plain, move, compare}
+use Rattle.vtype_cfg.specs.Classes.{Class, class_of, compare}
 use Rattle.vtype_cfg.specs.Legality.{is_legal}
 use Rattle.vtype_cfg.proofs.Lengths.{vlen_from, vlen_words}
-use Rattle.legal_groups.specs.Facts.{group_count, SameOrApart, SewGroups, MaskGroups}
+use Rattle.legal_groups.specs.Facts.{IsElementWidth, group_count, SameOrApart, SewGroups, MaskGroups}
 use Rattle.legal_groups.proofs.Groups.{plain_law, move_law, compare_law}
-use Rattle.element_ops.specs.Values.{vmv}
-use Rattle.rvv_meaning.specs.Arithmetic.{Operation, number_of, operation_for, on_elements, elementwise_of, reads_mask}
-use Rattle.rvv_meaning.specs.Elementwise.{registers_after}
-use Rattle.rvv_meaning.specs.Vectors.{vectors_after, operation_of}
+use Rattle.rvv_meaning.specs.Elementwise.{Elementwise, registers_after, clips_below, clips as clips_elements}
+use Rattle.rvv_meaning.specs.Operations.{Operation, operation_for, on_elements, elements_at, reads_mask}
+use Rattle.rvv_meaning.specs.Vectors.{left_of}
 use Rattle.frame_classes.specs.Operands.{row_of}
-use Rattle.frame_classes.specs.Plain.{Kind, IsKind}
+use Rattle.frame_classes.specs.Plain.{AllCompute}
+use Rattle.frame_classes.specs.Masks.{AllTell}
 use Rattle.frame_laws.specs.Programs.{program, first_registers, one_register}
 use Rattle.frame_laws.specs.Shapes.{Shape, usual_bounds}
 use Rattle.frame_masks.specs.Programs as masks
-use Rattle.frame_meaning.specs.Shapes.{operand_in, two_operand_shape, two_operand_program}
-use Rattle.frame_meaning.specs.Laws.{Runs}
-use Rattle.frame_meaning.specs.Costs.{Measured, KindCosts, cost_of}
-use Rattle.frame_meaning.specs.Masks.{compare_operands, compare_shape, compare_program, compare_cost_of, CompareMeasured}
-use Rattle.frame_meaning.proofs.Instructions.{plain_meaning_law, reversed_meaning_law, move_meaning_law, plain_cost_law, reversed_cost_law, move_cost_law}
+use Rattle.frame_meaning.specs.declared.Order.{Order}
+use Rattle.frame_meaning.specs.declared.Order.TheVariants.{Straight, Reversed, Second}
+use Rattle.frame_meaning.specs.Shapes.{operand_in, class_in, operands_in, value_in, elements_in, shape_in, program_in}
+use Rattle.frame_meaning.specs.Laws.{Runs, IgnoresFirst}
+use Rattle.frame_meaning.specs.Costs.{Measured}
+use Rattle.frame_meaning.specs.Masks.{IsTruth, truth_in, compare_operands, compare_shape, compare_program, CompareMeasured}
+use Rattle.frame_meaning.proofs.Instructions.{elements_meaning_law, elements_cost_law}
 use Rattle.frame_meaning.proofs.Masks.{compare_meaning_law, compare_cost_law}
-use Rattle.frame_classes.specs.Plain.{plain_body}
-use Rattle.frame_classes.specs.Masks.{mask_body}
-use Rattle.vec_exec.specs.Kinds.{IsElementWidth, Order, straight, reversed, moved, operation_in, order_of, operands_in, operands_of, value_in, kind_of, each_of, truth_kind_of, truth_each_of, operations_in}
-use Rattle.vec_exec.specs.Programs.{reads, element_program, mask_program, program_in, prog, cost, Realises, register_list, registers_list, mask_register_list, mask_registers_list, mask_fill_list, scalar_list, makes_elements, makes_bits, IsPlaced, IsMaskPlaced}
-use Rattle.vec_exec.proofs.GoodKinds.{value_at, good, truth_of, is-truth, good-truth}
-
--- ---- the program as it is written
-
-no-bit : (w : ℕ) → IsElementWidth w → eqb w 1 ≡ false
-no-bit w (inl is) = rw is refl
-no-bit w (inr (inl is)) = rw is refl
-no-bit w (inr (inr is)) = rw is refl
-
-module _ (op : OpiOp) (i : VInstr) (c : Cfg) (x : ℕ) where
-  -- where the results are elements
-  module _ (wide : IsElementWidth c.vtype.sew) (no : (operation_in op).makes_mask ≡ false) where
-    abbrev shape : Shape
-    shape = two_operand_shape i c x (operands_of op i) (operation_in op) (value_in (order_of op) i c (operation_in op))
-
-    abbrev body : ℕ → List MicroOp
-    body = plain_body shape (operands_of op i) (kind_of op (reads op i c) c.vtype.sew)
-
-    one : (g : ℕ) → one_register shape (usual_bounds shape) g (body g) ≡ register_list op i c g
-    unfolding one_register register_list two_operand_shape on_elements
-    one g = rw (no, no-bit c.vtype.sew wide) refl
-
-    first : (g : ℕ) → first_registers shape (usual_bounds shape) body g ≡ registers_list op i c g
-    unfolding first_registers registers_list
-    first zero = refl
-    first (suc g) = rw (first g, one g) refl
-
-    pub elements-list : element_program op i c x ≡ scalar_list i c x ++ registers_list op i c (group_count c.vtype)
-    unfolding two_operand_program two_operand_shape on_elements program
-    elements-list = rw no (ap (λ (xs : List MicroOp). scalar_list i c x ++ xs) (rw no at (first (group_count c.vtype))))
-
-  -- where they are bits of a mask
-  module _ (yes : (operation_in op).makes_mask ≡ true) where
-    abbrev mask_shape : Shape
-    mask_shape = compare_shape i c x (operation_in op)
-
-    abbrev mask_list : ℕ → List MicroOp
-    mask_list = mask_body (compare_operands i) (truth_kind_of op (reads op i c) c.vtype.sew)
-
-    one-mask : (g : ℕ) → masks.mask_register mask_shape (usual_bounds mask_shape) g (mask_list g) ≡ mask_register_list op i c g
-    unfolding masks.mask_register mask_register_list compare_shape on_elements
-    one-mask zero = rw yes refl
-    one-mask (suc g) = refl
-
-    first-mask : (g : ℕ) → masks.mask_registers mask_shape (usual_bounds mask_shape) mask_list g ≡ mask_registers_list op i c g
-    unfolding masks.mask_registers mask_registers_list
-    first-mask zero = refl
-    first-mask (suc g) = rw (first-mask g, one-mask g) refl
-
-    pub bits-list : mask_program op i c x ≡ scalar_list i c x ++ (mask_registers_list op i c (group_count c.vtype) ++ mask_fill_list c i.vd)
-    unfolding compare_program compare_shape on_elements masks.mask_program
-    bits-list = ap (λ (xs : List MicroOp). scalar_list i c x ++ (xs ++ mask_fill_list c i.vd)) (first-mask (group_count c.vtype))
+use Rattle.vec_exec.specs.declared.recipes.Listed.{Listed}
+use Rattle.vec_exec.specs.declared.recipes.Recipe.{Recipe}
+use Rattle.vec_exec.specs.Recipes.{recipe_for, makes_bits, takes_row, value_of, truth_of, list_of, counts_of, length_of, Computes}
+use Rattle.vec_exec.specs.Programs.{reads, masked, list_for, kind_list, truth_list, element_program, mask_program, register_list, registers_list, mask_register_list, mask_registers_list, mask_fill_list, scalar_list, IsPlaced, IsMaskPlaced, IsMade, IsMaskMade, Realises, prog, program_by, cost, cost_by}
+use Rattle.vec_exec.proofs.Fits.{Traits, Ignores, value_by, Means, Unmasked, Fits, never}
 
 -- ---- what a valid configuration has
 
@@ -105,79 +55,27 @@ pub valid-length : (c : Cfg) → IsTrue (is_valid c) → IsTrue (is_legal_vlen c
 unfolding is_valid
 valid-length c valid = (and_parts _ _ (and_parts _ _ (and_parts _ _ (and_parts _ _ valid).0).0).0).0
 
-valid-short : (c : Cfg) → IsTrue (is_valid c) → c.vl ≤ vlmax c.vtype c.vlen
+pub valid-short : (c : Cfg) → IsTrue (is_valid c) → c.vl ≤ vlmax c.vtype c.vlen
 unfolding is_valid
 valid-short c valid = leb-true c.vl (vlmax c.vtype c.vlen) (and_parts _ _ (and_parts _ _ (and_parts _ _ valid).0).0).1
 
--- ---- what an operation that is built has
+-- ---- widths and rows
 
--- its class, by how it takes its operands
-abbrev class_in : Order → Class
-class_in straight = plain
-class_in reversed = plain
-class_in moved = move
-
-element-class : (op : OpiOp) → makes_elements op ≡ true → opi_class op ≡ class_in (order_of op)
-unfolding opi_class operation_for
-element-class Vadd is = refl
-element-class Vsub is = refl
-element-class Vrsub is = refl
-element-class Vadc is = refl
-element-class Vsbc is = refl
-element-class Vand is = refl
-element-class Vor is = refl
-element-class Vxor is = refl
-element-class Vminu is = refl
-element-class Vmin is = refl
-element-class Vmaxu is = refl
-element-class Vmax is = refl
-element-class Vmerge is = refl
-element-class VmvV is = refl
-element-class _ is = cc
-
-bits-class : (op : OpiOp) → makes_bits op ≡ true → opi_class op ≡ compare
-unfolding opi_class operation_for
-bits-class Vmadc is = refl
-bits-class Vmsbc is = refl
-bits-class Vmseq is = refl
-bits-class Vmsne is = refl
-bits-class Vmsltu is = refl
-bits-class Vmslt is = refl
-bits-class Vmsleu is = refl
-bits-class Vmsle is = refl
-bits-class Vmsgtu is = refl
-bits-class Vmsgt is = refl
-bits-class _ is = cc
-
--- the one that takes vs1 alone is the copy
-moved-copies : (op : OpiOp) → order_of op ≡ moved → operation_in op ≡ number_of vmv
-unfolding operation_for
-moved-copies VmvV is = refl
-moved-copies _ is = cc
-
-there : (o : Option Operation) (d : Operation) → is_some o ≡ true → o ≡ Some (unwrap_or o d)
-there None d is = absurd (false≢true is)
-there (Some o) d is = refl
-
--- it makes elements, or bits of a mask
-pub elements-made : (op : OpiOp) → is_some (operation_for op) ≡ true → (operation_in op).makes_mask ≡ false → makes_elements op ≡ true
-elements-made op built numbers = rw (built, numbers) refl
-
-pub bits-made : (op : OpiOp) → is_some (operation_for op) ≡ true → (operation_in op).makes_mask ≡ true → makes_bits op ≡ true
-bits-made op built bits = rw (built, bits) refl
-
--- ---- what legality says of its rows
+no-bit : (w : ℕ) → IsElementWidth w → eqb w 1 ≡ false
+no-bit w (inl is) = rw is refl
+no-bit w (inr (inl is)) = rw is refl
+no-bit w (inr (inr is)) = rw is refl
 
 -- the groups of an instruction with a group as its destination
 abbrev Facts : Order → VInstr → Cfg → Type 0
-Facts straight i c = SewGroups i c.vtype × SameOrApart (group_count c.vtype) i.vd i.vs2
-Facts reversed i c = SewGroups i c.vtype × SameOrApart (group_count c.vtype) i.vd i.vs2
-Facts moved i c = SewGroups i c.vtype
+Facts Straight i c = SewGroups i c.vtype × SameOrApart (group_count c.vtype) i.vd i.vs2
+Facts Reversed i c = SewGroups i c.vtype × SameOrApart (group_count c.vtype) i.vd i.vs2
+Facts Second i c = SewGroups i c.vtype
 
 groups-in : (order : Order) (i : VInstr) (c : Cfg) → Facts order i c → SewGroups i c.vtype
-groups-in straight i c f = f.0
-groups-in reversed i c f = f.0
-groups-in moved i c f = f
+groups-in Straight i c f = f.0
+groups-in Reversed i c f = f.0
+groups-in Second i c f = f
 
 second-row : (form : Form) (vs1 n g : ℕ) → g < n → (form ≡ V → vs1 + n ≤ 32) → IsOperandRow (row_of (operand_in form vs1) g)
 second-row V vs1 n g inside room = let r : vs1 + n ≤ 32 = room refl in inl (omega arith)
@@ -187,21 +85,21 @@ second-row I vs1 n g inside room = inr (inr (inl refl))
 -- the rows of the operands for register g
 rows-in : (order : Order) (i : VInstr) (c : Cfg) → Facts order i c → (g : ℕ) → g < group_count c.vtype
     → IsOperandRow (row_of (operands_in order i).a g) × IsOperandRow (row_of (operands_in order i).b g)
-rows-in straight i c f g inside =
+rows-in Straight i c f g inside =
     let r : i.vs2 + group_count c.vtype ≤ 32 = f.1.0 in
     (inl (omega arith), second-row i.form i.vs1 (group_count c.vtype) g inside (λ is. (f.0.vs1 is).0))
-rows-in reversed i c f g inside =
+rows-in Reversed i c f g inside =
     let r : i.vs2 + group_count c.vtype ≤ 32 = f.1.0 in
     (second-row i.form i.vs1 (group_count c.vtype) g inside (λ is. (f.0.vs1 is).0), inl (omega arith))
-rows-in moved i c f g inside =
+rows-in Second i c f g inside =
     let r : i.vd + group_count c.vtype ≤ 32 = f.room in
     (inl (omega arith), second-row i.form i.vs1 (group_count c.vtype) g inside (λ is. (f.vs1 is).0))
 
 -- what a plan needs of an instruction
-pub record Plans (op : OpiOp) (i : VInstr) (c : Cfg) : Type 0 where
+pub record Plans (r : Recipe) (i : VInstr) (c : Cfg) : Type 0 where
   pub sew : IsElementWidth c.vtype.sew
   pub few : group_count c.vtype ≤ 8
-  pub placed : (g : ℕ) → g < group_count c.vtype → IsPlaced op i g
+  pub placed : (g : ℕ) → g < group_count c.vtype → IsPlaced r i g
 
 pub record MaskPlans (i : VInstr) (c : Cfg) : Type 0 where
   pub sew : IsElementWidth c.vtype.sew
@@ -209,11 +107,169 @@ pub record MaskPlans (i : VInstr) (c : Cfg) : Type 0 where
   pub vd : i.vd < 32
   pub placed : (g : ℕ) → g < group_count c.vtype → IsMaskPlaced i g
 
-module _ (op : OpiOp) (i : VInstr) (c : Cfg) (x : ℕ) (valid : IsTrue (is_valid c)) (legal : is_legal i c.vtype c.vstart ≡ true) (is : i.op ≡ Opi op) where
+-- ---- lists
+
+ignoring : (order : Order) (o : Operation) → Ignores order o → order ≡ Second → IgnoresFirst o
+ignoring Second o h is = h
+ignoring _ o h is = cc
+
+-- a list that computes the operation's value as it takes the operands
+lists-compute : (order : Order) (o : Operation) (i : VInstr) (c : Cfg) (list : Listed) (g : ℕ) → makes_bits list ≡ false → takes_row list ≡ reads_mask i o
+    → ((a b d : ℕ) (m : Bool) → value_of list c.vtype.sew a b d m ≡ value_by order o c.vtype.sew c.vxrm a b d (reads_mask i o && m))
+    → Computes list c.vtype.sew (row_of (operands_in order i).a g) (row_of (operands_in order i).b g) (i.vd + g) (i.vd + g)
+    → RealisesList c.vtype.sew (i.vd + g) (reads_mask i o)
+    (λ n m. value_in order i c o (n (row_of (operands_in order i).a g)) (n (row_of (operands_in order i).b g)) (n (row_of (operands_in order i).addend g)) m)
+    (list_of list c.vtype.sew (row_of (operands_in order i).a g) (row_of (operands_in order i).b g) (i.vd + g) (i.vd + g))
+unfolding Computes
+lists-compute Straight o i c list g bits takes same h = realises-same _ _ _ _ _ _ (λ n m small. rw (same _ _ _ m) refl) (rw (bits, takes) at h)
+lists-compute Reversed o i c list g bits takes same h = realises-same _ _ _ _ _ _ (λ n m small. rw (same _ _ _ m) refl) (rw (bits, takes) at h)
+lists-compute Second o i c list g bits takes same h = realises-same _ _ _ _ _ _ (λ n m small. rw (same _ _ _ m) refl) (rw (bits, takes) at h)
+
+-- no element is clipped where the operation clips none
+clips-no-element : (c : Cfg) (e : Elementwise) (v : List (List ℕ)) → ((k : ℕ) → e.clipped v k ≡ false) → (n : ℕ) → clips_below c e v n ≡ false
+unfolding clips_below
+clips-no-element c e v none zero = refl
+clips-no-element c e v none (suc n) = rw (clips-no-element c e v none n, none n) (no-and _)
+  where
+    no-and : (b : Bool) → (b && false) ≡ false
+    no-and true = refl
+    no-and false = refl
+
+module _ (r : Recipe) (o : Operation) (i : VInstr) (c : Cfg) (x : ℕ) (f : Fits i.op r o) where
+  takes : r.takes_mask ≡ o.takes_mask
+  takes = ap (λ (t : Traits). t.takes_mask) f.same
+
+  signed : r.signed ≡ o.signed_immediate
+  signed = ap (λ (t : Traits). t.signed) f.same
+
+  class-is : class_of i.op ≡ cond (makes_bits r.masked) compare (class_in r.order)
+  class-is = ap (λ (t : Traits). t.class) f.same
+
+  same-bits : makes_bits r.plain ≡ makes_bits r.masked
+  same-bits = ap (λ (t : Traits). t.bits) f.same
+
+  -- the list that the instruction takes makes bits where its recipe does
+  pub bits-for : makes_bits (list_for r i) ≡ makes_bits r.masked
+  bits-for = either (reads r i)
+    where
+      either : (b : Bool) → makes_bits (cond b r.masked r.plain) ≡ makes_bits r.masked
+      either true = refl
+      either false = same-bits
+
+  -- it takes the mask where the instruction reads it
+  takes-for : takes_row (list_for r i) ≡ reads_mask i o
+  takes-for = either r.takes_mask (not i.vm) refl ∙ rw takes refl
+    where
+      either : (b c : Bool) → r.takes_mask ≡ b → takes_row (cond (b && c) r.masked r.plain) ≡ (b && c)
+      either true true is = ap (λ (t : Traits). t.masked) f.same ∙ is
+      either true false is = ap (λ (t : Traits). t.plain) f.same
+      either false c is = ap (λ (t : Traits). t.plain) f.same
+
+  -- the program marks no element as clipped, and the operation clips none
+  unclipped : (v : List (List ℕ)) → clips_elements c (on_elements i c x o) v ≡ false
+  unfolding elements_at
+  unclipped v = clips-no-element c (on_elements i c x o) v (λ k. rw (ap (λ (t : Traits). t.clips) f.same) refl) _
+
+  -- ---- results that are elements
+
+  module _ (numbers : makes_bits r.masked ≡ false) where
+    class : class_of i.op ≡ class_in r.order
+    class = class-is ∙ rw numbers refl
+
+    value-for : (a b d : ℕ) (m : Bool) → value_of (list_for r i) c.vtype.sew a b d m ≡ value_by r.order o c.vtype.sew c.vxrm a b d (reads_mask i o && m)
+    value-for a b d m = either (reads r i) ∙ rw takes refl
+      where
+        means : Means false r o
+        means = rw numbers at f.means
+
+        unmasked : Unmasked false r.plain r.masked
+        unmasked = rw numbers at f.unmasked
+
+        either : (t : Bool) → value_of (cond t r.masked r.plain) c.vtype.sew a b d m ≡ value_by r.order o c.vtype.sew c.vxrm a b d (t && m)
+        either true = means c.vtype.sew c.vxrm a b d m
+        either false = unmasked c.vtype.sew a b d m ∙ means c.vtype.sew c.vxrm a b d false
+
+    computed : ((g : ℕ) → g < group_count c.vtype → IsMade r i c g)
+        → AllCompute c.vtype.sew i.vd (group_count c.vtype) (reads_mask i o) (operands_in r.order i) (value_in r.order i c o) (kind_list r i c)
+    computed made g inside = lists-compute r.order o i c (list_for r i) g (bits-for ∙ numbers) takes-for value-for (made g inside).computes
+
+    -- the program as it is written
+    module _ (wide : IsElementWidth c.vtype.sew) where
+      abbrev shape : Shape
+      shape = shape_in r.order i c x o
+
+      one : (g : ℕ) → one_register shape (usual_bounds shape) g (kind_list r i c g) ≡ register_list r i c g
+      unfolding one_register register_list shape_in elements_in elements_at
+      one g = rw (takes, no-bit c.vtype.sew wide) refl
+
+      first : (g : ℕ) → first_registers shape (usual_bounds shape) (kind_list r i c) g ≡ registers_list r i c g
+      unfolding first_registers registers_list
+      first zero = refl
+      first (suc g) = rw (first g, one g) refl
+
+      pub elements-list : element_program r i c x ≡ program_in r.order i c x o (kind_list r i c)
+      unfolding program_in shape_in elements_in program
+      elements-list =
+          ap (λ (b : Bool). scalar_list b i c x ++ registers_list r i c (group_count c.vtype)) signed
+          ∙ sym (ap (λ (xs : List MicroOp). scalar_list o.signed_immediate i c x ++ xs) (first (group_count c.vtype)))
+
+  -- ---- results that are bits of a mask
+
+  module _ (bits : makes_bits r.masked ≡ true) where
+    mask-class : class_of i.op ≡ compare
+    mask-class = class-is ∙ rw bits refl
+
+    truth : IsTruth o (truth_of r.masked)
+    truth = rw bits at f.means
+
+    truth-for : (a b : ℕ) (m : Bool) → truth_of (list_for r i) c.vtype.sew a b m ≡ truth_in i c o (truth_of r.masked) a b m
+    truth-for a b m = either (reads r i) ∙ rw takes refl
+      where
+        unmasked : Unmasked true r.plain r.masked
+        unmasked = rw bits at f.unmasked
+
+        either : (t : Bool) → truth_of (cond t r.masked r.plain) c.vtype.sew a b m ≡ truth_of r.masked c.vtype.sew a b (t && m)
+        either true = refl
+        either false = unmasked c.vtype.sew a b m
+
+    told : ((g : ℕ) → g < group_count c.vtype → IsMaskMade r i c g)
+        → AllTell c.vtype.sew (group_count c.vtype) (reads_mask i o) (compare_operands i) (truth_in i c o (truth_of r.masked)) (truth_list r i c)
+    unfolding Computes
+    told made g inside =
+        tells-same _ _ _ _ _ (λ n m small. truth-for _ _ m) (rw (bits-for ∙ bits, takes-for) at (made g inside).computes)
+
+    abbrev mask_shape : Shape
+    mask_shape = compare_shape i c x o
+
+    one-mask : (g : ℕ) → masks.mask_register mask_shape (usual_bounds mask_shape) g (truth_list r i c g) ≡ mask_register_list r i c g
+    unfolding masks.mask_register mask_register_list compare_shape elements_at
+    one-mask zero = rw takes refl
+    one-mask (suc g) = rw takes refl
+
+    first-mask : (g : ℕ) → masks.mask_registers mask_shape (usual_bounds mask_shape) (truth_list r i c) g ≡ mask_registers_list r i c g
+    unfolding masks.mask_registers mask_registers_list
+    first-mask zero = refl
+    first-mask (suc g) = rw (first-mask g, one-mask g) refl
+
+    pub bits-list : mask_program r i c x ≡ compare_program i c x o (truth_list r i c)
+    unfolding compare_program compare_shape elements_at masks.mask_program
+    bits-list =
+        ap (λ (b : Bool). scalar_list b i c x ++ (mask_registers_list r i c (group_count c.vtype) ++ mask_fill_list c i.vd)) signed
+        ∙ sym (ap (λ (xs : List MicroOp). scalar_list o.signed_immediate i c x ++ (xs ++ mask_fill_list c i.vd)) (first-mask (group_count c.vtype)))
+
+-- ---- a legal instruction
+
+-- what a program is for, what it costs, and that a chain can run it
+pub record Fine (r : Recipe) (i : VInstr) (c : Cfg) (x : ℕ) : Type 0 where
+  pub realises : Realises i c x (program_by r i c x)
+  pub cost : tally (program_by r i c x) ≡ cost_by r i c
+  pub range : AllInRange (c.vlen / 32) (program_by r i c x)
+
+module _ (r : Recipe) (o : Operation) (i : VInstr) (c : Cfg) (x : ℕ) (f : Fits i.op r o) (valid : IsTrue (is_valid c)) (legal : is_legal i c.vtype c.vstart ≡ true) where
   facts-in : (order : Order) → class_of i.op ≡ class_in order → Facts order i c
-  facts-in straight class = plain_law i c.vtype c.vstart (valid-setting c valid) legal class
-  facts-in reversed class = plain_law i c.vtype c.vstart (valid-setting c valid) legal class
-  facts-in moved class = move_law i c.vtype c.vstart (valid-setting c valid) legal class
+  facts-in Straight class = plain_law i c.vtype c.vstart (valid-setting c valid) legal class
+  facts-in Reversed class = plain_law i c.vtype c.vstart (valid-setting c valid) legal class
+  facts-in Second class = move_law i c.vtype c.vstart (valid-setting c valid) legal class
 
   least : 32 ≤ c.vlen
   least = vlen_from c.vlen (valid-length c valid)
@@ -224,186 +280,121 @@ module _ (op : OpiOp) (i : VInstr) (c : Cfg) (x : ℕ) (valid : IsTrue (is_valid
   runs : (s : Slices) → c.vlen ≡ 32 * s.columns → i.vs1 < 32 → Runs i c s
   runs s long small = record { setting = valid-setting c valid; legal = legal; long = long; some = let l = least in omega arith; immediate = small }
 
-  -- what the instruction means
-  meant : is_some (operation_for op) ≡ true → (v : List (List ℕ)) → vectors_after i c x v ≡ registers_after c (on_elements i c x (operation_in op)) v
-  unfolding vectors_after elementwise_of
-  meant built v =
-      subst (λ o. option_map_or (λ e. registers_after c e v) (operation_of o i c x) v ≡ registers_after c (on_elements i c x (operation_in op)) v) (sym is)
-      (ap (λ (o : Option Operation). option_map_or (λ e. registers_after c e v) (option_map (on_elements i c x) o) v) (there (operation_for op) (number_of vmv) built))
+  pub plans : makes_bits r.masked ≡ false → Plans r i c
+  plans numbers =
+      let facts = facts-in r.order (class r o i c x f numbers) in
+      let groups = groups-in r.order i c facts in
+      record {
+        sew = groups.sew;
+        few = groups.few;
+        placed = λ g inside. let rows = rows-in r.order i c facts g inside in record {
+          vd = let room : i.vd + group_count c.vtype ≤ 32 = groups.room in omega arith;
+          a = rows.0;
+          b = rows.1;
+        };
+      }
 
-  -- ---- results that are elements
+  pub mask-plans : makes_bits r.masked ≡ true → MaskPlans i c
+  mask-plans bits =
+      let groups : MaskGroups i c.vtype = compare_law i c.vtype c.vstart (valid-setting c valid) legal (mask-class r o i c x f bits) in
+      record {
+        sew = groups.sew;
+        few = groups.few;
+        vd = groups.room;
+        placed = λ g inside. record {
+          vd = groups.room;
+          a = let room : i.vs2 + group_count c.vtype ≤ 32 = groups.vs2.0 in inl (omega arith);
+          b = second-row i.form i.vs1 (group_count c.vtype) g inside (λ is. (groups.vs1 is).0);
+        };
+      }
 
-  module _ (made : makes_elements op ≡ true) where
-    class : class_of i.op ≡ class_in (order_of op)
-    class = rw is (element-class op made)
+  -- SEW is one of the widths
+  pub wide : IsElementWidth c.vtype.sew
+  wide =
+      ⊎_elim
+      (λ (bits : makes_bits r.masked ≡ true). (mask-plans bits).sew)
+      (λ (numbers : makes_bits r.masked ≡ false). (plans numbers).sew)
+      (cases_Bool (makes_bits r.masked))
 
-    facts : Facts (order_of op) i c
-    facts = facts-in (order_of op) class
+  -- a program of elements leaves what the instruction means, and costs what it should
+  pub elements-realised : (numbers : makes_bits r.masked ≡ false) → ((g : ℕ) → g < group_count c.vtype → IsMade r i c g) → i.vs1 < 32 → (s : Slices) → c.vlen ≡ 32 * s.columns
+      → registers_of (replay (element_program r i c x) s) ≡ registers_after c (on_elements i c x o) (registers_of s)
+  elements-realised numbers made small s long =
+      rw (elements-list r o i c x f numbers wide)
+      (elements_meaning_law r.order o i c x (kind_list r i c) s (ignoring r.order o f.ignores) (runs s long small) (class r o i c x f numbers) (computed r o i c x f numbers made))
 
-    groups : SewGroups i c.vtype
-    groups = groups-in (order_of op) i c facts
+  pub elements-measured : (numbers : makes_bits r.masked ≡ false) → ((g : ℕ) → g < group_count c.vtype → IsMade r i c g) → i.vs1 < 32
+      → Measured i c (blank (c.vlen / 32)) (reads_mask i o) (counts_of (list_for r i) c.vtype.sew) (length_of (list_for r i) c.vtype.sew) (element_program r i c x)
+  elements-measured numbers made small =
+      rw (elements-list r o i c x f numbers wide)
+      (elements_cost_law r.order o i c x (kind_list r i c) (blank (c.vlen / 32)) _ _ (runs (blank (c.vlen / 32)) whole small) (class r o i c x f numbers) (λ g inside. (made g inside).cost))
 
-    pub plans : Plans op i c
-    plans =
-        let s = groups in
-        record {
-          sew = s.sew;
-          few = s.few;
-          placed = λ g inside. let rows = rows-in (order_of op) i c facts g inside in record {
-            vd = let room : i.vd + group_count c.vtype ≤ 32 = s.room in omega arith;
-            a = rows.0;
-            b = rows.1;
-          };
-        }
+  -- so does one of the bits of a mask
+  pub bits-realised : (bits : makes_bits r.masked ≡ true) → ((g : ℕ) → g < group_count c.vtype → IsMaskMade r i c g) → i.vs1 < 32 → (s : Slices) → c.vlen ≡ 32 * s.columns
+      → registers_of (replay (mask_program r i c x) s) ≡ registers_after c (on_elements i c x o) (registers_of s)
+  bits-realised bits made small s long =
+      rw (bits-list r o i c x f bits)
+      (compare_meaning_law o (truth_of r.masked) (truth r o i c x f bits) i c x (truth_list r i c) s (runs s long small) (valid-short c valid) (mask-class r o i c x f bits)
+      (told r o i c x f bits made))
 
-    some-bits : 0 < c.vtype.sew
-    some-bits = positive c.vtype.sew groups.sew
-      where
-        positive : (w : ℕ) → IsElementWidth w → 0 < w
-        positive w (inl e) = omega arith
-        positive w (inr (inl e)) = omega arith
-        positive w (inr (inr e)) = omega arith
+  pub bits-measured : (bits : makes_bits r.masked ≡ true) → ((g : ℕ) → g < group_count c.vtype → IsMaskMade r i c g) → i.vs1 < 32
+      → CompareMeasured i c (blank (c.vlen / 32)) (reads_mask i o) (counts_of (list_for r i) c.vtype.sew) (length_of (list_for r i) c.vtype.sew) (mask_program r i c x)
+  bits-measured bits made small =
+      rw (bits-list r o i c x f bits)
+      (compare_cost_law o i c x (truth_list r i c) (blank (c.vlen / 32)) _ _ (runs (blank (c.vlen / 32)) whole small) (valid-short c valid) (mask-class r o i c x f bits) (λ g inside. (made g inside).cost))
 
-    no : (operation_in op).makes_mask ≡ false
-    no = without (operation_in op).makes_mask (and_parts (is_some (operation_for op)) (not (operation_in op).makes_mask) made).1
-      where
-        without : (b : Bool) → not b ≡ true → b ≡ false
-        without true h = absurd (false≢true h)
-        without false h = refl
+  -- ---- together
 
-    list-for : Kind
-    list-for = kind_of op (reads op i c) c.vtype.sew
+  -- what a list leaves that leaves the registers of the meaning
+  realised : (ops : List MicroOp) → operation_for i.op ≡ Some o
+      → ((s : Slices) → c.vlen ≡ 32 * s.columns → registers_of (replay ops s) ≡ registers_after c (on_elements i c x o) (registers_of s)) → Realises i c x ops
+  unfolding Realises
+  realised ops is all s cleared long =
+      rw is (all s long, clips-none ops s ∙ sym (unclipped r o i c x f (registers_of s)))
 
-    kind-in : (order : Order) (o : Operation) (kind : Kind) → IsKind c.vtype.sew (reads_mask i o) (value_at order o (reads_mask i o) c.vtype.sew) kind
-        → IsKind c.vtype.sew (reads_mask i o) (value_in order i c o) kind
-    kind-in straight o kind h = h
-    kind-in reversed o kind h = h
-    kind-in moved o kind h = h
+  abbrev made_all : Type 0
+  made_all = (g : ℕ) → g < group_count c.vtype → IsMade r i c g
 
-    -- the program in the frame leaves what the instruction means
-    leaves-in : (order : Order) (o : Operation) (kind : Kind) (s : Slices) → o.makes_mask ≡ false → (order ≡ moved → o ≡ number_of vmv) → class_of i.op ≡ class_in order → Runs i c s
-        → IsKind c.vtype.sew (reads_mask i o) (value_in order i c o) kind
-        → registers_of (replay (two_operand_program i c x (operands_in order i) o (value_in order i c o) kind) s) ≡ registers_after c (on_elements i c x o) (registers_of s)
-    leaves-in straight o kind s numbers copies class run good = plain_meaning_law o numbers i c x kind s run class good
-    leaves-in reversed o kind s numbers copies class run good = reversed_meaning_law o numbers i c x kind s run class good
-    leaves-in moved o kind s numbers copies class run good =
-        subst (λ (o : Operation). IsKind c.vtype.sew (reads_mask i o) (value_in moved i c o) kind
-        → registers_of (replay (two_operand_program i c x (operands_in moved i) o (value_in moved i c o) kind) s) ≡ registers_after c (on_elements i c x o) (registers_of s))
-        (sym (copies refl)) (λ h. move_meaning_law i c x kind s run class h) good
+  abbrev mask_made_all : Type 0
+  mask_made_all = (g : ℕ) → g < group_count c.vtype → IsMaskMade r i c g
 
-    pub elements-realised : i.vs1 < 32 → (s : Slices) → c.vlen ≡ 32 * s.columns → registers_of (replay (element_program op i c x) s) ≡ vectors_after i c x (registers_of s)
-    elements-realised small s long =
-        leaves-in (order_of op) (operation_in op) (kind_of op (reads op i c) c.vtype.sew) s no (moved-copies op) class (runs s long small)
-        (kind-in (order_of op) (operation_in op) (kind_of op (reads op i c) c.vtype.sew) (good op (reads op i c) c.vtype.sew some-bits made).realises)
-        ∙ sym (meant (and_parts (is_some (operation_for op)) (not (operation_in op).makes_mask) made).0 (registers_of s))
+  pub elements-program : makes_bits r.masked ≡ false → program_by r i c x ≡ element_program r i c x
+  unfolding program_by
+  elements-program numbers = rw (bits-for r o i c x f ∙ numbers) refl
 
-    costs-in : (order : Order) (o : Operation) (kind : Kind) (s : Slices) (each : Counts) (long : ℕ) → o.makes_mask ≡ false → (order ≡ moved → o ≡ number_of vmv) → class_of i.op ≡ class_in order → Runs i c s
-        → KindCosts kind each long → Measured i c s (reads_mask i o) each long (two_operand_program i c x (operands_in order i) o (value_in order i c o) kind)
-    costs-in straight o kind s each long numbers copies class run costs = plain_cost_law o numbers i c x kind s each long run class costs
-    costs-in reversed o kind s each long numbers copies class run costs = reversed_cost_law o numbers i c x kind s each long run class costs
-    costs-in moved o kind s each long numbers copies class run costs =
-        subst (λ (o : Operation). Measured i c s (reads_mask i o) each long (two_operand_program i c x (operands_in moved i) o (value_in moved i c o) kind))
-        (sym (copies refl)) (move_cost_law i c x kind s each long run class costs)
+  pub elements-fine : operation_for i.op ≡ Some o → makes_bits r.masked ≡ false → made_all → i.vs1 < 32 → Fine r i c x
+  unfolding cost_by
+  elements-fine is numbers made small =
+      let m = elements-measured numbers made small in
+      record {
+        realises = rw (elements-program numbers) (realised (element_program r i c x) is (elements-realised numbers made small));
+        cost = rw (elements-program numbers) (m.cost ∙ sym (rw (bits-for r o i c x f ∙ numbers) refl));
+        range = rw (elements-program numbers) m.range;
+      }
 
-    pub elements-measured : i.vs1 < 32
-        → Measured i c (blank (c.vlen / 32)) (reads op i c) (each_of op (reads op i c) c.vtype.sew) (operations_in (each_of op (reads op i c) c.vtype.sew)) (element_program op i c x)
-    elements-measured small =
-        costs-in (order_of op) (operation_in op) (kind_of op (reads op i c) c.vtype.sew) (blank (c.vlen / 32)) _ _ no (moved-copies op) class (runs (blank (c.vlen / 32)) whole small)
-        (good op (reads op i c) c.vtype.sew some-bits made).costs
+  pub bits-program : makes_bits r.masked ≡ true → program_by r i c x ≡ mask_program r i c x
+  unfolding program_by
+  bits-program bits = rw (bits-for r o i c x f ∙ bits) refl
 
-  -- ---- results that are bits of a mask
+  pub bits-fine : operation_for i.op ≡ Some o → makes_bits r.masked ≡ true → mask_made_all → i.vs1 < 32 → Fine r i c x
+  unfolding cost_by
+  bits-fine is bits made small =
+      let m = bits-measured bits made small in
+      record {
+        realises = rw (bits-program bits) (realised (mask_program r i c x) is (bits-realised bits made small));
+        cost = rw (bits-program bits) (m.cost ∙ sym (rw (bits-for r o i c x f ∙ bits) refl));
+        range = rw (bits-program bits) m.range;
+      }
 
-  module _ (made : makes_bits op ≡ true) where
-    mask-class : class_of i.op ≡ compare
-    mask-class = rw is (bits-class op made)
+  -- whether the mask is an operand
+  pub reads-for : reads r i ≡ reads_mask i o
+  reads-for = rw (takes r o i c x f) refl
 
-    mask-groups : MaskGroups i c.vtype
-    mask-groups = compare_law i c.vtype c.vstart (valid-setting c valid) legal mask-class
-
-    pub mask-plans : MaskPlans i c
-    mask-plans =
-        let s = mask-groups in
-        record {
-          sew = s.sew;
-          few = s.few;
-          vd = s.room;
-          placed = λ g inside. record {
-            vd = s.room;
-            a = let room : i.vs2 + group_count c.vtype ≤ 32 = s.vs2.0 in inl (omega arith);
-            b = second-row i.form i.vs1 (group_count c.vtype) g inside (λ is. (s.vs1 is).0);
-          };
-        }
-
-    some-mask-bits : 0 < c.vtype.sew
-    some-mask-bits = positive c.vtype.sew mask-groups.sew
-      where
-        positive : (w : ℕ) → IsElementWidth w → 0 < w
-        positive w (inl e) = omega arith
-        positive w (inr (inl e)) = omega arith
-        positive w (inr (inr e)) = omega arith
-
-    yes : (operation_in op).makes_mask ≡ true
-    yes = (and_parts (is_some (operation_for op)) (operation_in op).makes_mask made).1
-
-    pub bits-realised : i.vs1 < 32 → (s : Slices) → c.vlen ≡ 32 * s.columns → registers_of (replay (mask_program op i c x) s) ≡ vectors_after i c x (registers_of s)
-    bits-realised small s long =
-        compare_meaning_law (operation_in op) (truth_of op) yes (is-truth op made) i c x (truth_kind_of op (reads op i c) c.vtype.sew) s (runs s long small) (valid-short c valid) mask-class
-        (good-truth op (reads op i c) c.vtype.sew some-mask-bits made).tells
-        ∙ sym (meant (and_parts (is_some (operation_for op)) (operation_in op).makes_mask made).0 (registers_of s))
-
-    pub bits-measured : i.vs1 < 32
-        → CompareMeasured i c (blank (c.vlen / 32)) (reads op i c) (truth_each_of op (reads op i c) c.vtype.sew) (operations_in (truth_each_of op (reads op i c) c.vtype.sew)) (mask_program op i c x)
-    bits-measured small =
-        compare_cost_law (operation_in op) yes i c x (truth_kind_of op (reads op i c) c.vtype.sew) (blank (c.vlen / 32)) _ _ (runs (blank (c.vlen / 32)) whole small) (valid-short c valid) mask-class
-        (good-truth op (reads op i c) c.vtype.sew some-mask-bits made).costs
-
--- ---- programs
-
--- the program and the cost of an instruction on elements
-pub prog-is : (op : OpiOp) (i : VInstr) (c : Cfg) (x : ℕ) → i.op ≡ Opi op → prog i c x ≡ program_in op i c x
+-- the program and the cost of an instruction whose operation has a recipe
+pub prog-is : (r : Recipe) (i : VInstr) (c : Cfg) (x : ℕ) → recipe_for i.op ≡ Some r → prog i c x ≡ program_by r i c x
 unfolding prog
-prog-is op i c x is = rw is refl
+prog-is r i c x named = rw named refl
 
-cost-is : (op : OpiOp) (i : VInstr) (c : Cfg) → i.op ≡ Opi op
-    → cost i c ≡ cond (operation_in op).makes_mask (compare_cost_of i c (truth_each_of op (reads op i c) c.vtype.sew)) (cost_of i c (each_of op (reads op i c) c.vtype.sew))
+pub cost-is : (r : Recipe) (i : VInstr) (c : Cfg) → recipe_for i.op ≡ Some r → cost i c ≡ cost_by r i c
 unfolding cost
-cost-is op i c is = rw is refl
-
--- SEW is one of the widths
-pub wide : (op : OpiOp) (i : VInstr) (c : Cfg) (x : ℕ) → IsTrue (is_valid c) → is_legal i c.vtype c.vstart ≡ true → i.op ≡ Opi op → is_some (operation_for op) ≡ true → IsElementWidth c.vtype.sew
-wide op i c x valid legal is built =
-    ⊎_elim
-    (λ (bits : (operation_in op).makes_mask ≡ true). (mask-plans op i c x valid legal is (bits-made op built bits)).sew)
-    (λ (numbers : (operation_in op).makes_mask ≡ false). (plans op i c x valid legal is (elements-made op built numbers)).sew)
-    (cases_Bool (operation_in op).makes_mask)
-
--- what a program is for, what it costs, and that a chain can run it
-pub record Fine (i : VInstr) (c : Cfg) (x : ℕ) (ops : List MicroOp) : Type 0 where
-  pub realises : Realises i c x ops
-  pub cost : tally ops ≡ cost i c
-  pub range : AllInRange (c.vlen / 32) ops
-
-pub fine : (op : OpiOp) (i : VInstr) (c : Cfg) (x : ℕ) → IsTrue (is_valid c) → is_legal i c.vtype c.vstart ≡ true → i.op ≡ Opi op → is_some (operation_for op) ≡ true → i.vs1 < 32
-    → Fine i c x (program_in op i c x)
-unfolding Realises
-fine op i c x valid legal is built small =
-    ⊎_elim
-    (λ (bits : (operation_in op).makes_mask ≡ true).
-    let made = bits-made op built bits in
-    let m = bits-measured op i c x valid legal is made small in
-    let same : program_in op i c x ≡ mask_program op i c x = rw bits refl in
-    record {
-      realises = rw same (λ s cleared long. bits-realised op i c x valid legal is made small s long);
-      cost = rw same (m.cost ∙ sym (cost-is op i c is ∙ rw bits refl));
-      range = rw same m.range;
-    })
-    (λ (numbers : (operation_in op).makes_mask ≡ false).
-    let made = elements-made op built numbers in
-    let m = elements-measured op i c x valid legal is made small in
-    let same : program_in op i c x ≡ element_program op i c x = rw numbers refl in
-    record {
-      realises = rw same (λ s cleared long. elements-realised op i c x valid legal is made small s long);
-      cost = rw same (m.cost ∙ sym (cost-is op i c is ∙ rw numbers refl));
-      range = rw same m.range;
-    })
-    (cases_Bool (operation_in op).makes_mask)
+cost-is r i c named = rw named refl

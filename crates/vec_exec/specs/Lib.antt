@@ -1,3 +1,3 @@
 -- The programs of vector instructions.
-pub mod Kinds
+pub mod Recipes
 pub mod Programs

@@ -1,20 +1,24 @@
 -- The program of an instruction, what it costs, and when a list realises an instruction.
-use Rattle.std.specs.Prelude.{◌≡◌, ◌<◌, ℕ, zero, suc, ◌+◌, ◌*◌, ◌/◌, Bool, true, false, cond, ◌&&◌, not, List, [], ◌∷◌, ◌++◌, is_some}
+use Rattle.std.specs.Prelude.{◌≡◌, ◌⊎◌, ◌<◌, ◌%◌, ◌^◌, ℕ, zero, suc, ◌+◌, ◌*◌, ◌/◌, Bool, true, false, cond, ◌&&◌, not, List, [], ◌∷◌, ◌++◌, Option, Some, None, is_some}
+use Rattle.std.specs.Option.{option_map_or}
+use Rattle.bit_laws.specs.Numbers.{low}
 use Rattle.bit_rows.specs.Slices.{Slices}
 use Rattle.cam_chain.specs.ChainValue.{no_counts}
 use Rattle.cam_chain.specs.declared.counts.Counts.{Counts}
 use Rattle.cam_chain.specs.Views.{registers_of}
 use Rattle.frame_classes.specs.Operands.{row_of}
-use Rattle.frame_laws.specs.Pieces.{splat, fill_step}
 use Rattle.frame_meaning.specs.Costs.{cost_of}
-use Rattle.frame_meaning.specs.Masks.{compare_program, compare_cost_of, compare_operands}
-use Rattle.frame_meaning.specs.Shapes.{has_scalar, scalar_of, two_operand_program}
+use Rattle.frame_meaning.specs.Masks.{compare_cost_of, compare_operands}
+use Rattle.frame_meaning.specs.Shapes.{has_scalar, scalar_of, operands_in}
+use Rattle.legal_groups.specs.Facts.{group_count}
 use Rattle.mask_window.specs.Operations.{active_operation, free_operation}
+use Rattle.micro_ir.specs.Measures.{Measured}
+use Rattle.micro_ir.specs.Pieces.{splat, fill_step}
 use Rattle.micro_ir.specs.Steps.{micros}
 use Rattle.micro_ir.specs.WorkRows.{IsOperandRow, active_row, mask_row, truth_row}
 use Rattle.micro_ir.specs.declared.op.MicroOp.{MicroOp}
 use Rattle.micro_ir.specs.declared.op.MicroOp.TheVariants.{Window, PackMask}
-use Rattle.micro_ir.specs.Replay.{replay}
+use Rattle.micro_ir.specs.Replay.{replay, clips}
 use Rattle.rvv_decode.specs.declared.instruction.OpiOp.{OpiOp}
 use Rattle.rvv_decode.specs.declared.instruction.OpiOp.TheVariants.{Vrgather, Vrgatherei16}
 use Rattle.rvv_decode.specs.declared.instruction.OpmOp.{OpmOp}
@@ -25,10 +29,11 @@ use Rattle.rvv_decode.specs.declared.instruction.VInstr.{VInstr}
 use Rattle.rvv_decode.specs.declared.instruction.VOp.{VOp}
 use Rattle.rvv_decode.specs.declared.instruction.VOp.TheVariants.{Opi, Opm, Config, Memory}
 use Rattle.vtype_cfg.specs.declared.configuration.Cfg.{Cfg}
-use Rattle.rvv_meaning.specs.Arithmetic.{operation_for, reads_mask, is_masked}
-use Rattle.rvv_meaning.specs.Elementwise.{is_ones}
-use Rattle.rvv_meaning.specs.Vectors.{vectors_after}
-use Rattle.vec_exec.specs.Kinds.{operation_in, order_of, operands_of, value_in, kind_of, each_of, truth_kind_of, truth_each_of}
+use Rattle.rvv_meaning.specs.Elementwise.{is_ones, registers_after, clips as clips_elements}
+use Rattle.rvv_meaning.specs.Vectors.{Left, elements, number, left_of}
+use Rattle.vec_exec.specs.declared.recipes.Listed.{Listed}
+use Rattle.vec_exec.specs.declared.recipes.Recipe.{Recipe}
+use Rattle.vec_exec.specs.Recipes.{recipe_for, makes_bits, list_of, counts_of, length_of, Computes}
 
 -- whether an instruction is carried out by a program: not a gather by a vector of indices, a compression, an iota, a move
 -- to a scalar register, a configuration, a load or a store
@@ -57,37 +62,32 @@ is_engine_op (Memory op) form = false
 unfoldable pub is_engine : VInstr → Bool
 is_engine i = is_engine_op i.op i.form
 
--- an instruction under a configuration and with this scalar
-module _ (op : OpiOp) (i : VInstr) (c : Cfg) where
-  -- whether the mask is an operand of it, and whether it leaves elements out
-  abbrev pub reads : Bool
-  reads = reads_mask i (operation_in op)
+-- whether the mask is an operand of an instruction with this recipe, and whether it leaves elements out
+abbrev pub reads : Recipe → VInstr → Bool
+reads r i = r.takes_mask && not i.vm
 
-  abbrev pub masked : Bool
-  masked = is_masked i (operation_in op)
+abbrev pub masked : Recipe → VInstr → Bool
+masked r i = not r.takes_mask && not i.vm
 
-  -- its program, where the results are elements, and where they are the bits of a mask
-  abbrev pub element_program : (scalar : ℕ) → List MicroOp
-  element_program x =
-      two_operand_program i c x (operands_of op i) (operation_in op) (value_in (order_of op) i c (operation_in op)) (kind_of op reads c.vtype.sew)
+-- the list that the instruction takes
+abbrev pub list_for : Recipe → VInstr → Listed
+list_for r i = cond (reads r i) r.masked r.plain
 
-  abbrev pub mask_program : (scalar : ℕ) → List MicroOp
-  mask_program x = compare_program i c x (operation_in op) (truth_kind_of op reads c.vtype.sew)
+-- ---- the parts of a program
 
-  abbrev pub program_in : (scalar : ℕ) → List MicroOp
-  program_in x = cond (operation_in op).makes_mask (mask_program x) (element_program x)
-
--- ---- the program as it is written
-
--- ones into the free elements of a register, where free elements become ones
-abbrev pub fill_list : Cfg → (first : ℕ) → (masked : Bool) → (to : ℕ) → List MicroOp
-fill_list c first masked to =
-    cond (is_ones c.policy) (free_operation c c.vtype.sew first masked c.vtype.vta ∷ micros c.vtype.sew (fill_step c.vtype.sew to ∷ [])) []
+-- the operations that put the scalar into its row, where there is one
+abbrev pub scalar_list : (signed : Bool) → VInstr → Cfg → (scalar : ℕ) → List MicroOp
+scalar_list signed i c x = cond (has_scalar i.form) (micros c.vtype.sew (splat c.vtype.sew (scalar_of i c x signed))) []
 
 -- the operations that mark the elements of a register, and lay out their mask bits where the mask is an operand
 abbrev pub window_list : Cfg → (reads masked : Bool) → (first : ℕ) → List MicroOp
 window_list c reads masked first =
     active_operation c c.vtype.sew first masked ∷ cond reads (Window mask_row c.vtype.sew first c.vstart c.vl true ∷ []) []
+
+-- ones into the free elements of a register, where free elements become ones
+abbrev pub fill_list : Cfg → (first : ℕ) → (masked : Bool) → (to : ℕ) → List MicroOp
+fill_list c first masked to =
+    cond (is_ones c.policy) (free_operation c c.vtype.sew first masked c.vtype.vta ∷ micros c.vtype.sew (fill_step c.vtype.sew to ∷ [])) []
 
 -- the operation that marks the free bits of a mask, with the first register alone; and how many there are
 abbrev pub free_bits : Cfg → (masked : Bool) → (g : ℕ) → List MicroOp
@@ -102,7 +102,16 @@ free_count ones (suc g) = 0
 abbrev pub mask_fill_list : Cfg → (to : ℕ) → List MicroOp
 mask_fill_list c to = cond (is_ones c.policy) (micros c.vtype.sew (fill_step c.vtype.sew to ∷ [])) []
 
-module _ (op : OpiOp) (i : VInstr) (c : Cfg) where
+-- ---- the program
+
+-- the list of register g of the destination, and that of register g of the operands of a mask
+abbrev pub kind_list : Recipe → VInstr → Cfg → (g : ℕ) → List MicroOp
+kind_list r i c g = list_of (list_for r i) c.vtype.sew (row_of (operands_in r.order i).a g) (row_of (operands_in r.order i).b g) (i.vd + g) (i.vd + g)
+
+abbrev pub truth_list : Recipe → VInstr → Cfg → (g : ℕ) → List MicroOp
+truth_list r i c g = list_of (list_for r i) c.vtype.sew (row_of (compare_operands i).a g) (row_of (compare_operands i).b g) i.vd i.vd
+
+module _ (r : Recipe) (i : VInstr) (c : Cfg) where
   -- the first element of register g of a group
   abbrev pub first_in : (g : ℕ) → ℕ
   first_in g = g * (c.vlen / c.vtype.sew)
@@ -110,9 +119,13 @@ module _ (op : OpiOp) (i : VInstr) (c : Cfg) where
   -- the operations on register g of the destination: those that mark its elements, the kind's, and the fill
   unfoldable pub register_list : (g : ℕ) → List MicroOp
   register_list g =
-      window_list c (reads op i c) (masked op i c) (first_in g)
-      ++ (kind_of op (reads op i c) c.vtype.sew (row_of (operands_of op i).a g) (row_of (operands_of op i).b g) (row_of (operands_of op i).addend g) (i.vd + g)
-      ++ fill_list c (first_in g) (masked op i c) (i.vd + g))
+      window_list c (reads r i) (masked r i) (first_in g)
+      ++ (kind_list r i c g
+      ++ fill_list c (first_in g) (masked r i) (i.vd + g))
+
+  -- how many these are
+  abbrev pub register_length : ℕ
+  register_length = 1 + cond (reads r i) 1 0 + cond (is_ones c.policy) 3 0 + length_of (list_for r i) c.vtype.sew
 
   -- the operations on the first registers of the destination
   unfoldable pub registers_list : (count : ℕ) → List MicroOp
@@ -123,30 +136,48 @@ module _ (op : OpiOp) (i : VInstr) (c : Cfg) where
   -- one that packs the truths
   unfoldable pub mask_register_list : (g : ℕ) → List MicroOp
   mask_register_list g =
-      window_list c (reads op i c) (masked op i c) (first_in g)
-      ++ (truth_kind_of op (reads op i c) c.vtype.sew (row_of (compare_operands i).a g) (row_of (compare_operands i).b g)
-      ++ (free_bits c (masked op i c) g ++ PackMask truth_row active_row i.vd c.vtype.sew (first_in g) ∷ []))
+      window_list c (reads r i) (masked r i) (first_in g)
+      ++ (truth_list r i c g
+      ++ (free_bits c (masked r i) g ++ PackMask truth_row active_row i.vd c.vtype.sew (first_in g) ∷ []))
+
+  -- how many these are, but for the free bits
+  abbrev pub mask_register_length : ℕ
+  mask_register_length = 2 + cond (reads r i) 1 0 + length_of (list_for r i) c.vtype.sew
 
   unfoldable pub mask_registers_list : (count : ℕ) → List MicroOp
   mask_registers_list zero = []
   mask_registers_list (suc g) = mask_registers_list g ++ mask_register_list g
 
--- the operations that put the scalar into its row, where there is one
-abbrev pub scalar_list : VInstr → Cfg → (scalar : ℕ) → List MicroOp
-scalar_list i c x = cond (has_scalar i.form) (micros c.vtype.sew (splat c.vtype.sew (scalar_of i c x))) []
+  -- the program with a scalar: of results that are elements, and of results that are the bits of a mask
+  abbrev pub element_program : (scalar : ℕ) → List MicroOp
+  element_program x = scalar_list r.signed i c x ++ registers_list (group_count c.vtype)
 
--- whether the results of an operation that is built are elements, or the bits of a mask
-abbrev pub makes_elements : OpiOp → Bool
-makes_elements op = is_some (operation_for op) && not (operation_in op).makes_mask
+  abbrev pub mask_program : (scalar : ℕ) → List MicroOp
+  mask_program x = scalar_list r.signed i c x ++ (mask_registers_list (group_count c.vtype) ++ mask_fill_list c i.vd)
 
-abbrev pub makes_bits : OpiOp → Bool
-makes_bits op = is_some (operation_for op) && (operation_in op).makes_mask
+  unfoldable pub program_by : (scalar : ℕ) → List MicroOp
+  program_by x = cond (makes_bits (list_for r i)) (mask_program x) (element_program x)
+
+  -- what it costs
+  unfoldable pub cost_by : Counts
+  cost_by = cond (makes_bits (list_for r i)) (compare_cost_of i c (counts_of (list_for r i) c.vtype.sew)) (cost_of i c (counts_of (list_for r i) c.vtype.sew))
+
+-- the program of an instruction, of those that are built
+unfoldable pub prog : VInstr → Cfg → (scalar : ℕ) → List MicroOp
+prog i c x = option_map_or (λ r. program_by r i c x) (recipe_for i.op) []
+
+-- The searches, updates and passes of the program of an instruction: of its scalar; for each register of the destination of
+-- the kind and, where free elements become ones, of the fill; but one fill where the result is a mask.
+unfoldable pub cost : VInstr → Cfg → Counts
+cost i c = option_map_or (λ r. cost_by r i c) (recipe_for i.op) no_counts
+
+-- ---- rows
 
 -- register g of the destination and the rows of its operands are there
-pub record IsPlaced (op : OpiOp) (i : VInstr) (g : ℕ) : Type 0 where
+pub record IsPlaced (r : Recipe) (i : VInstr) (g : ℕ) : Type 0 where
   pub vd : i.vd + g < 32
-  pub a : IsOperandRow (row_of (operands_of op i).a g)
-  pub b : IsOperandRow (row_of (operands_of op i).b g)
+  pub a : IsOperandRow (row_of (operands_in r.order i).a g)
+  pub b : IsOperandRow (row_of (operands_in r.order i).b g)
 
 -- the rows of the operands of a mask are there
 pub record IsMaskPlaced (i : VInstr) (g : ℕ) : Type 0 where
@@ -154,31 +185,30 @@ pub record IsMaskPlaced (i : VInstr) (g : ℕ) : Type 0 where
   pub a : IsOperandRow (row_of (compare_operands i).a g)
   pub b : IsOperandRow (row_of (compare_operands i).b g)
 
--- ---- programs
+-- ---- what a program is for
 
--- the program of an instruction, of those that are built
-abbrev pub program_of : VOp → VInstr → Cfg → (scalar : ℕ) → List MicroOp
-program_of (Opi op) i c x = program_in op i c x
-program_of (Opm op) i c x = []
-program_of (Config op) i c x = []
-program_of (Memory op) i c x = []
+-- What a list leaves in slices that held these registers: the registers that the instruction means and whether it clips an
+-- element; or the number that it means for a scalar register, with the registers as they were.
+abbrev pub Leaves : Cfg → List (List ℕ) → Left → (after : Slices) → (clipped : Bool) → Type 0
+Leaves c v (elements e) after clipped = (registers_of after ≡ registers_after c e v) × (clipped ≡ clips_elements c e v)
+Leaves c v (number n) after clipped = (registers_of after ≡ v) × (low 32 after.num ≡ n) × (clipped ≡ false)
 
-unfoldable pub prog : VInstr → Cfg → (scalar : ℕ) → List MicroOp
-prog i c x = program_of i.op i c x
+abbrev pub LeavesMeaning : Cfg → List (List ℕ) → Option Left → (after : Slices) → (clipped : Bool) → Type 0
+LeavesMeaning c v None after clipped = ⊥
+LeavesMeaning c v (Some left) after clipped = Leaves c v left after clipped
 
--- The searches, updates and passes of the program of an instruction: of its scalar; for each register of the destination of
--- the kind and, where free elements become ones, of the fill; but one fill where the result is a mask.
-abbrev pub cost_in : VOp → VInstr → Cfg → Counts
-cost_in (Opi op) i c = cond (operation_in op).makes_mask (compare_cost_of i c (truth_each_of op (reads op i c) c.vtype.sew)) (cost_of i c (each_of op (reads op i c) c.vtype.sew))
-cost_in (Opm op) i c = no_counts
-cost_in (Config op) i c = no_counts
-cost_in (Memory op) i c = no_counts
-
-unfoldable pub cost : VInstr → Cfg → Counts
-cost i c = cost_in i.op i c
-
--- The list realises the instruction: from slices whose control number is 0, its replay leaves the registers that the
--- instruction means for the registers before.
+-- The list realises the instruction: from any slices whose control number is 0, its replay leaves what the instruction means
+-- for the registers before.
 unfoldable pub Realises : VInstr → Cfg → (scalar : ℕ) → List MicroOp → Type 0
 Realises i c x ops =
-    (s : Slices) → s.num ≡ 0 → c.vlen ≡ 32 * s.columns → registers_of (replay ops s) ≡ vectors_after i c x (registers_of s)
+    (s : Slices) → s.num ≡ 0 → c.vlen ≡ 32 * s.columns → LeavesMeaning c (registers_of s) (left_of i c x (registers_of s)) (replay ops s) (clips ops s)
+
+-- What the list of register g computes, from the rows of its operands, and what it costs.
+pub record IsMade (r : Recipe) (i : VInstr) (c : Cfg) (g : ℕ) : Type 0 where
+  pub computes : Computes (list_for r i) c.vtype.sew (row_of (operands_in r.order i).a g) (row_of (operands_in r.order i).b g) (i.vd + g) (i.vd + g)
+  pub cost : Measured (counts_of (list_for r i) c.vtype.sew) (length_of (list_for r i) c.vtype.sew) (kind_list r i c g)
+
+-- The same of a list that tells the truths of register g of the operands of a mask.
+pub record IsMaskMade (r : Recipe) (i : VInstr) (c : Cfg) (g : ℕ) : Type 0 where
+  pub computes : Computes (list_for r i) c.vtype.sew (row_of (compare_operands i).a g) (row_of (compare_operands i).b g) i.vd i.vd
+  pub cost : Measured (counts_of (list_for r i) c.vtype.sew) (length_of (list_for r i) c.vtype.sew) (truth_list r i c g)

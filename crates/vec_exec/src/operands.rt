@@ -1,15 +1,17 @@
 // The rows of an instruction's operands, and its scalar.
 ghost use Rattle.std.specs.Prelude.{◌≡◌, ◌⊎◌, ◌+◌, ◌<◌};
+ghost use Rattle.bit_laws.specs.Signed.{extended};
 ghost use Rattle.frame_classes.specs.Operands.{row_of};
 ghost use Rattle.frame_meaning.specs.Masks.{compare_operands};
-ghost use Rattle.frame_meaning.specs.Shapes.{operand_in};
+ghost use Rattle.frame_meaning.specs.Shapes.{operand_in, operands_in};
 ghost use Rattle.micro_ir.specs.WorkRows.{IsOperandRow};
-ghost use Rattle.rvv_meaning.specs.Arithmetic.{signed_immediate};
-ghost use Rattle.vec_exec.specs.Kinds.{operands_of};
+ghost use Rattle.rvv_meaning.specs.Operations.{immediate_bits};
 ghost use Rattle.vec_exec.specs.Programs.{IsPlaced, IsMaskPlaced};
 
+use crate::recipes::Recipe;
+use frame_meaning::Order;
 use micro_ir::Place;
-use rvv_decode::{Form, OpiOp, VInstr};
+use rvv_decode::{Form, VInstr};
 
 // The row of the scalar operand.
 const SCALAR_ROW: u8 = 34;
@@ -20,13 +22,13 @@ const WORD_BITS: u32 = 32;
 // The sign of an immediate of 5 bits.
 const IMMEDIATE_SIGN: u8 = 1 << 4;
 
-// An immediate of 5 bits with its sign, at `width` bits.
-pub(crate) fn immediate(width: u8, bits: u8) -> u32
+// An immediate of 5 bits at `width` bits, extended by its sign or by zeros.
+pub(crate) fn immediate(signed: bool, width: u8, bits: u8) -> u32
     requires width { (width ≡ 8) ⊎ ((width ≡ 16) ⊎ (width ≡ 32)) }
     requires bits { bits < 32 }
-    ensures { result ≡ signed_immediate width bits }
+    ensures { result ≡ extended signed immediate_bits width bits }
 {
-    if bits < IMMEDIATE_SIGN {
+    if !signed || bits < IMMEDIATE_SIGN {
         return u32::from(bits);
     }
     let missing = u32::from(2 * IMMEDIATE_SIGN - bits);
@@ -44,19 +46,20 @@ fn second_row(i: &VInstr, register: u8) -> u8
     }
 }
 
-// The rows of a kind's operands for a register of the group, and the register that it writes. A reversed difference takes
-// the operands in reversed order. A move has no vs2, and names the destination in its place.
-pub(crate) fn place(op: OpiOp, i: &VInstr, register: u8) -> Place
-    requires { IsPlaced op i.now register }
-    ensures a { result.a ≡ row_of (operands_of op i.now).a register }
-    ensures b { result.b ≡ row_of (operands_of op i.now).b register }
+// The rows of a list's operands for a register of the group, and the register that it writes, which is its third operand too.
+// A list that takes vs1 alone has the destination in the place of vs2.
+pub(crate) fn place(recipe: Recipe, i: &VInstr, register: u8) -> Place
+    requires { IsPlaced recipe i.now register }
+    ensures a { result.a ≡ row_of (operands_in recipe.order i.now).a register }
+    ensures b { result.b ≡ row_of (operands_in recipe.order i.now).b register }
+    ensures addend { result.addend ≡ i.now.vd + register }
     ensures to { result.to ≡ i.now.vd + register }
 {
     let to = i.vd + register;
-    let (a, b) = match op {
-        OpiOp::Vrsub => (second_row(i, register), i.vs2 + register),
-        OpiOp::VmvV => (to, second_row(i, register)),
-        _ => (i.vs2 + register, second_row(i, register)),
+    let (a, b) = match recipe.order {
+        Order::Straight => (i.vs2 + register, second_row(i, register)),
+        Order::Reversed => (second_row(i, register), i.vs2 + register),
+        Order::Second => (to, second_row(i, register)),
     };
     at_rows(a, b, to)
 }
@@ -66,15 +69,17 @@ pub(crate) fn mask_place(i: &VInstr, register: u8) -> Place
     requires { IsMaskPlaced i.now register }
     ensures a { result.a ≡ row_of (compare_operands i.now).a register }
     ensures b { result.b ≡ row_of (compare_operands i.now).b register }
+    ensures addend { result.addend ≡ i.now.vd }
     ensures to { result.to ≡ i.now.vd }
 {
     at_rows(i.vs2 + register, second_row(i, register), i.vd)
 }
 
-// A place of these rows; no kind that is built has a third operand.
+// A place of these rows, whose third operand is the register that is written.
 pub(crate) fn at_rows(a: u8, b: u8, to: u8) -> Place
     ensures a { result.a ≡ a }
     ensures b { result.b ≡ b }
+    ensures addend { result.addend ≡ to }
     ensures to { result.to ≡ to }
 {
     Place {

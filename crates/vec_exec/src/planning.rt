@@ -1,20 +1,18 @@
 // The plan of an instruction.
-ghost use Rattle.std.specs.Prelude.{◌≡◌, ℕ, ◌+◌, ◌*◌, ◌/◌, ◌<◌, ◌≤◌, ◌++◌, [], length, true, false, cond, not, is_some, IsTrue};
+ghost use Rattle.std.specs.Prelude.{◌≡◌, ℕ, ◌+◌, ◌*◌, ◌/◌, ◌<◌, ◌≤◌, ◌++◌, [], Some, length, true, false, cond, not, IsTrue};
 ghost use Rattle.micro_ir.specs.Replay.{AllInRange, tally};
 ghost use Rattle.rvv_decode.specs.Ranges.{IsInRange};
-ghost use Rattle.rvv_decode.specs.declared.instruction.VOp.TheVariants.{Opi};
 ghost use Rattle.vtype_cfg.specs.Legality.{is_legal};
 ghost use Rattle.vtype_cfg.specs.Settings.{is_valid};
-ghost use Rattle.legal_groups.specs.Facts.{group_count};
-ghost use Rattle.rvv_meaning.specs.Arithmetic.{operation_for};
-ghost use Rattle.rvv_meaning.specs.Elementwise.{is_ones};
-ghost use Rattle.rvv_meaning.specs.Vectors.{on_elements_is_built};
+ghost use Rattle.legal_groups.specs.Facts.{group_count, IsElementWidth};
+ghost use Rattle.rvv_meaning.specs.Vectors.{is_built, is_on_elements};
 ghost use Rattle.frame_meaning.specs.Shapes.{has_scalar};
-ghost use Rattle.vec_exec.specs.Kinds.{operation_in, IsElementWidth};
-ghost use Rattle.vec_exec.specs.Programs.{prog, program_in, is_engine, Realises, cost, scalar_list, reads, masked};
+ghost use Rattle.vec_exec.specs.Recipes.{recipe_for};
+ghost use Rattle.vec_exec.specs.Programs.{prog, program_by, is_engine, Realises, cost, cost_by, scalar_list};
 
 use crate::operands::{at_rows, immediate};
-use crate::registers::{MaskUse, emit_mask_fill, emit_mask_registers, emit_registers};
+use crate::recipes::{Recipe, makes_bits, recipe_of};
+use crate::registers::{emit_mask_fill, emit_mask_registers, emit_registers};
 use bit_laws::{W8, W16, W32, Width};
 use gen_logic::emit_splat;
 use micro_ir::MicroBuf;
@@ -51,111 +49,78 @@ fn registers(cfg: &Cfg) -> u8
     (cfg.vtype.lmul8 / EIGHTHS).max(1)
 }
 
-// Whether the results of an operation that is built are the bits of a mask.
-#[tactic(auto, unfolding(rvv_meaning::specs::Arithmetic::operation_for))]
-fn makes_mask(op: OpiOp) -> bool
-    requires { is_some (operation_for op) ≡ true }
-    ensures { result ≡ (operation_in op).makes_mask }
+/// Whether an instruction is built: one of configuration, or one whose operation has a recipe.
+pub fn built(i: &VInstr) -> bool
+    ensures value { result ≡ is_built i.now.op }
 {
-    matches!(
-        op,
-        OpiOp::Vmadc
-            | OpiOp::Vmsbc
-            | OpiOp::Vmseq
-            | OpiOp::Vmsne
-            | OpiOp::Vmsltu
-            | OpiOp::Vmslt
-            | OpiOp::Vmsleu
-            | OpiOp::Vmsle
-            | OpiOp::Vmsgtu
-            | OpiOp::Vmsgt
-    )
-}
-
-// Whether the mask, where the instruction names it, is an operand of an operation that is built.
-#[tactic(auto, unfolding(rvv_meaning::specs::Arithmetic::operation_for))]
-fn takes_mask(op: OpiOp) -> bool
-    requires { is_some (operation_for op) ≡ true }
-    ensures { result ≡ (operation_in op).takes_mask }
-{
-    matches!(
-        op,
-        OpiOp::Vadc | OpiOp::Vsbc | OpiOp::Vmadc | OpiOp::Vmsbc | OpiOp::Vmerge
-    )
-}
-
-// How the instruction uses the mask.
-fn mask_use(op: OpiOp, i: &VInstr, cfg: &Cfg) -> MaskUse
-    requires { is_some (operation_for op) ≡ true }
-    ensures reads { result.reads ≡ reads op i.now cfg.now }
-    ensures masked { result.masked ≡ masked op i.now cfg.now }
-{
-    let takes = takes_mask(op);
-    MaskUse {
-        reads: takes && !i.vm,
-        masked: !takes && !i.vm,
-    }
+    matches!(i.op, VOp::Config(_)) || recipe_of(i.op).is_some()
 }
 
 // The operations that put the scalar into its row, where the instruction has one.
-fn emit_scalar<W: Width>(i: &VInstr, cfg: &Cfg, scalar: u32, buf: &mut MicroBuf)
+fn emit_scalar<W: Width>(recipe: Recipe, i: &VInstr, cfg: &Cfg, scalar: u32, buf: &mut MicroBuf)
     requires width { cfg.now.vtype.sew ≡ W.BITS }
     requires sew { IsElementWidth cfg.now.vtype.sew }
     requires immediate { i.now.vs1 < 32 }
     requires room { 4 ≤ buf.old.spare }
-    ensures ops { buf.new.ops ≡ buf.old.ops ++ scalar_list i.now cfg.now scalar }
+    ensures ops { buf.new.ops ≡ buf.old.ops ++ scalar_list recipe.signed i.now cfg.now scalar }
     ensures spare { buf.new.spare + cond (has_scalar i.now.form) 4 0 ≡ buf.old.spare }
 {
     let at = at_rows(0, 0, 0);
     match i.form {
         Form::V => {}
         Form::X => emit_splat::<W>(buf, &at, scalar),
-        Form::I => emit_splat::<W>(buf, &at, immediate(cfg.vtype.sew, i.vs1)),
+        Form::I => {
+            let number = immediate(recipe.signed, cfg.vtype.sew, i.vs1);
+            emit_splat::<W>(buf, &at, number);
+        }
     }
 }
 
-// The program of an instruction on elements of a width.
-fn emit_program_at<W: Width>(op: OpiOp, i: &VInstr, cfg: &Cfg, scalar: u32, buf: &mut MicroBuf)
+// The program of an instruction with a recipe, on elements of a width.
+fn emit_program_at<W: Width>(recipe: Recipe, i: &VInstr, cfg: &Cfg, scalar: u32, buf: &mut MicroBuf)
     requires width { cfg.now.vtype.sew ≡ W.BITS }
-    requires named { i.now.op ≡ Opi op }
-    requires built { is_some (operation_for op) ≡ true }
+    requires recipe { recipe_for i.now.op ≡ Some recipe }
     requires fields { IsInRange i.now }
     requires legal { is_legal i.now cfg.now.vtype cfg.now.vstart ≡ true }
     requires valid { IsTrue (is_valid cfg.now) }
     requires empty { buf.old.ops ≡ [] }
     requires room { buf.old.spare ≡ 262144 }
-    ensures program { buf.new.ops ≡ program_in op i.now cfg.now scalar }
+    ensures program { buf.new.ops ≡ program_by recipe i.now cfg.now scalar }
+    ensures realises { Realises i.now cfg.now scalar buf.new.ops }
+    ensures cost { tally buf.new.ops ≡ cost_by recipe i.now cfg.now }
+    ensures range { AllInRange (cfg.now.vlen / 32) buf.new.ops }
     ensures spare { buf.new.spare + length buf.new.ops ≡ buf.old.spare }
 {
-    let mask = mask_use(op, i, cfg);
     let count = registers(cfg);
-    emit_scalar::<W>(i, cfg, scalar, buf);
-    if makes_mask(op) {
-        emit_mask_registers::<W>(op, i, cfg, mask, count, buf);
+    emit_scalar::<W>(recipe, i, cfg, scalar, buf);
+    if makes_bits(recipe.masked) {
+        emit_mask_registers::<W>(recipe, i, cfg, count, buf);
         emit_mask_fill::<W>(cfg, i.vd, buf);
     } else {
-        emit_registers::<W>(op, i, cfg, mask, count, buf);
+        emit_registers::<W>(recipe, i, cfg, count, buf);
     }
 }
 
-// The program of an instruction on elements.
-fn emit_program(op: OpiOp, i: &VInstr, cfg: &Cfg, scalar: u32, buf: &mut MicroBuf)
-    requires named { i.now.op ≡ Opi op }
-    requires built { is_some (operation_for op) ≡ true }
+// The program of an instruction with a recipe.
+fn emit_program(recipe: Recipe, i: &VInstr, cfg: &Cfg, scalar: u32, buf: &mut MicroBuf)
+    requires recipe { recipe_for i.now.op ≡ Some recipe }
     requires fields { IsInRange i.now }
     requires legal { is_legal i.now cfg.now.vtype cfg.now.vstart ≡ true }
     requires valid { IsTrue (is_valid cfg.now) }
     requires empty { buf.old.ops ≡ [] }
     requires room { buf.old.spare ≡ 262144 }
-    ensures program { buf.new.ops ≡ prog i.now cfg.now scalar }
+    ensures program { buf.new.ops ≡ program_by recipe i.now cfg.now scalar }
+    ensures realises { Realises i.now cfg.now scalar buf.new.ops }
+    ensures cost { tally buf.new.ops ≡ cost_by recipe i.now cfg.now }
+    ensures range { AllInRange (cfg.now.vlen / 32) buf.new.ops }
     ensures spare { buf.new.spare + length buf.new.ops ≡ buf.old.spare }
 {
     if cfg.vtype.sew == BYTE_BITS {
-        emit_program_at::<W8>(op, i, cfg, scalar, buf);
+        emit_program_at::<W8>(recipe, i, cfg, scalar, buf);
     } else if cfg.vtype.sew == HALF_BITS {
-        emit_program_at::<W16>(op, i, cfg, scalar, buf);
+        emit_program_at::<W16>(recipe, i, cfg, scalar, buf);
     } else {
-        emit_program_at::<W32>(op, i, cfg, scalar, buf);
+        emit_program_at::<W32>(recipe, i, cfg, scalar, buf);
     }
 }
 
@@ -165,7 +130,7 @@ fn emit_program(op: OpiOp, i: &VInstr, cfg: &Cfg, scalar: u32, buf: &mut MicroBu
 /// the value of x[rs1], where the instruction takes it. The instruction is legal under the configuration, and one on
 /// elements that is built.
 pub fn plan(i: &VInstr, cfg: &Cfg, scalar: u32, buf: &mut MicroBuf)
-    requires built { on_elements_is_built i.now.op ≡ true }
+    requires built { is_on_elements i.now.op ≡ true }
     requires fields { IsInRange i.now }
     requires legal { is_legal i.now cfg.now.vtype cfg.now.vstart ≡ true }
     requires valid { IsTrue (is_valid cfg.now) }
@@ -180,8 +145,8 @@ pub fn plan(i: &VInstr, cfg: &Cfg, scalar: u32, buf: &mut MicroBuf)
     ensures passes { (tally buf.new.ops).passes ≤ 8126464 }
     ensures spare { buf.new.spare + length buf.new.ops ≡ buf.old.spare }
 {
-    match i.op {
-        VOp::Opi(op) => emit_program(op, i, cfg, scalar, buf),
-        VOp::Opm(_) | VOp::Config(_) | VOp::Memory(_) => unreachable!(),
+    match recipe_of(i.op) {
+        Some(recipe) => emit_program(recipe, i, cfg, scalar, buf),
+        None => unreachable!(),
     }
 }

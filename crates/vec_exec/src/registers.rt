@@ -1,16 +1,15 @@
 // The operations on the registers of a group.
-ghost use Rattle.std.specs.Prelude.{◌≡◌, ℕ, ◌+◌, ◌*◌, ◌/◌, ◌<◌, ◌≤◌, ◌++◌, true, cond};
+ghost use Rattle.std.specs.Prelude.{◌≡◌, ℕ, ◌+◌, ◌*◌, ◌/◌, ◌<◌, ◌≤◌, ◌++◌, cond};
 ghost use Rattle.rvv_meaning.specs.Elementwise.{is_ones};
-ghost use Rattle.vec_exec.specs.Kinds.{each_of, truth_each_of, operations_in};
-ghost use Rattle.vec_exec.specs.Programs.{makes_elements, makes_bits, IsPlaced, IsMaskPlaced, fill_list, window_list, register_list, registers_list, free_bits, free_count, mask_register_list, mask_registers_list, mask_fill_list, reads, masked};
+ghost use Rattle.vec_exec.specs.Programs.{IsPlaced, IsMaskPlaced, IsMade, IsMaskMade, fill_list, window_list, list_for, register_list, register_length, registers_list, free_bits, free_count, mask_register_list, mask_register_length, mask_registers_list, mask_fill_list, reads, masked};
 
-use crate::kinds::{emit_kind, emit_truth_kind};
 use crate::operands::{at_rows, mask_place, place};
+use crate::recipes::{Listed, Recipe, emit_list};
 use bit_laws::Width;
 use gen_logic::emit_fill;
 use mask_window::{active, free};
 use micro_ir::{MicroBuf, MicroOp};
-use rvv_decode::{OpiOp, VInstr};
+use rvv_decode::VInstr;
 use vtype_cfg::{Cfg, Policy};
 
 // The row of active elements, and that of the mask bits where the mask is an operand.
@@ -24,16 +23,31 @@ const TRUTH_ROW: u8 = 41;
 // The bits of an element of a mask.
 const MASK_WIDTH: u8 = 1;
 
-// How an instruction uses the mask: as an operand, or to leave elements out.
+// How an instruction uses the mask, as an operand or to leave elements out, and the list that it takes.
 #[derive(Clone, Copy)]
-pub(crate) struct MaskUse {
+pub(crate) struct Use {
     pub(crate) reads: bool,
     pub(crate) masked: bool,
+    pub(crate) list: Listed,
+}
+
+// What an instruction with a recipe makes of the mask.
+pub(crate) fn use_of(recipe: Recipe, i: &VInstr) -> Use
+    ensures reads { result.reads ≡ reads recipe i.now }
+    ensures masked { result.masked ≡ masked recipe i.now }
+    ensures list { result.list ≡ list_for recipe i.now }
+{
+    let reads = recipe.takes_mask && !i.vm;
+    Use {
+        reads,
+        masked: !recipe.takes_mask && !i.vm,
+        list: if reads { recipe.masked } else { recipe.plain },
+    }
 }
 
 // The operations that mark the elements of a register, and lay out their mask bits where the mask is an operand.
-fn emit_windows(cfg: &Cfg, mask: MaskUse, first: u32, buf: &mut MicroBuf)
-    requires room { 2 ≤ buf.old.spare }
+fn emit_windows(cfg: &Cfg, mask: Use, first: u32, buf: &mut MicroBuf)
+    requires room { 1 + cond mask.reads 1 0 ≤ buf.old.spare }
     ensures ops { buf.new.ops ≡ buf.old.ops ++ window_list cfg.now mask.reads mask.masked first }
     ensures spare { buf.new.spare + (1 + cond mask.reads 1 0) ≡ buf.old.spare }
 {
@@ -54,7 +68,7 @@ fn emit_windows(cfg: &Cfg, mask: MaskUse, first: u32, buf: &mut MicroBuf)
 fn emit_free<W: Width>(cfg: &Cfg, first: u32, masked: bool, to: u8, buf: &mut MicroBuf)
     requires width { cfg.now.vtype.sew ≡ W.BITS }
     requires to { to < 32 }
-    requires room { 3 ≤ buf.old.spare }
+    requires room { cond (is_ones cfg.now.policy) 3 0 ≤ buf.old.spare }
     ensures ops { buf.new.ops ≡ buf.old.ops ++ fill_list cfg.now first masked to }
     ensures spare { buf.new.spare + cond (is_ones cfg.now.policy) 3 0 ≡ buf.old.spare }
 {
@@ -78,61 +92,50 @@ fn first_of(cfg: &Cfg, register: u8) -> u32
 }
 
 // The operations on one register of the destination.
-fn emit_register<W: Width>(
-    op: OpiOp,
-    i: &VInstr,
-    cfg: &Cfg,
-    mask: MaskUse,
-    register: u8,
-    buf: &mut MicroBuf,
-)
-    requires elements { makes_elements op ≡ true }
+fn emit_register<W: Width>(recipe: Recipe, i: &VInstr, cfg: &Cfg, register: u8, buf: &mut MicroBuf)
     requires width { cfg.now.vtype.sew ≡ W.BITS }
-    requires reads { mask.reads ≡ reads op i.now cfg.now }
-    requires masked { mask.masked ≡ masked op i.now cfg.now }
-    requires placed { IsPlaced op i.now register }
+    requires placed { IsPlaced recipe i.now register }
     requires length { cfg.now.vlen ≤ 65536 }
     requires few { register < 8 }
-    requires room { 400 ≤ buf.old.spare }
-    ensures ops { buf.new.ops ≡ buf.old.ops ++ register_list op i.now cfg.now register }
-    ensures spare { buf.new.spare + (1 + cond mask.reads 1 0 + cond (is_ones cfg.now.policy) 3 0 + operations_in (each_of op mask.reads cfg.now.vtype.sew)) ≡ buf.old.spare }
+    requires room { register_length recipe i.now cfg.now ≤ buf.old.spare }
+    ensures ops { buf.new.ops ≡ buf.old.ops ++ register_list recipe i.now cfg.now register }
+    ensures spare { buf.new.spare + register_length recipe i.now cfg.now ≡ buf.old.spare }
+    ensures made { IsMade recipe i.now cfg.now register }
 {
     let first = first_of(cfg, register);
-    let at = place(op, i, register);
+    let at = place(recipe, i, register);
+    let mask = use_of(recipe, i);
     emit_windows(cfg, mask, first, buf);
-    emit_kind::<W>(op, mask.reads, &at, buf);
+    emit_list::<W>(mask.list, &at, buf);
     emit_free::<W>(cfg, first, mask.masked, at.to, buf);
 }
 
 // The operations on all registers of the destination, in rising order.
 pub(crate) fn emit_registers<W: Width>(
-    op: OpiOp,
+    recipe: Recipe,
     i: &VInstr,
     cfg: &Cfg,
-    mask: MaskUse,
     count: u8,
     buf: &mut MicroBuf,
 )
-    requires elements { makes_elements op ≡ true }
     requires width { cfg.now.vtype.sew ≡ W.BITS }
-    requires reads { mask.reads ≡ reads op i.now cfg.now }
-    requires masked { mask.masked ≡ masked op i.now cfg.now }
-    requires placed { (g : ℕ) → g < count → IsPlaced op i.now g }
+    requires placed { (g : ℕ) → g < count → IsPlaced recipe i.now g }
     requires length { cfg.now.vlen ≤ 65536 }
     requires few { count ≤ 8 }
-    requires room { 3200 ≤ buf.old.spare }
-    ensures ops { buf.new.ops ≡ buf.old.ops ++ registers_list op i.now cfg.now count }
-    ensures spare { buf.new.spare + count * (1 + cond mask.reads 1 0 + cond (is_ones cfg.now.policy) 3 0 + operations_in (each_of op mask.reads cfg.now.vtype.sew)) ≡ buf.old.spare }
+    requires room { count * register_length recipe i.now cfg.now ≤ buf.old.spare }
+    ensures ops { buf.new.ops ≡ buf.old.ops ++ registers_list recipe i.now cfg.now count }
+    ensures spare { buf.new.spare + count * register_length recipe i.now cfg.now ≡ buf.old.spare }
+    ensures made { (g : ℕ) → g < count → IsMade recipe i.now cfg.now g }
 {
     for register in 0..count {
-        emit_register::<W>(op, i, cfg, mask, register, buf);
+        emit_register::<W>(recipe, i, cfg, register, buf);
     }
 }
 
 // The operation that marks the free bits of a mask, with the first register alone: the mask may be v0, which says what is
 // left out, so that it is read before a bit is written.
 fn emit_free_bits(cfg: &Cfg, masked: bool, register: u8, buf: &mut MicroBuf)
-    requires room { 1 ≤ buf.old.spare }
+    requires room { free_count (is_ones cfg.now.policy) register ≤ buf.old.spare }
     ensures ops { buf.new.ops ≡ buf.old.ops ++ free_bits cfg.now masked register }
     ensures spare { buf.new.spare + free_count (is_ones cfg.now.policy) register ≡ buf.old.spare }
 {
@@ -144,28 +147,26 @@ fn emit_free_bits(cfg: &Cfg, masked: bool, register: u8, buf: &mut MicroBuf)
 
 // The operations on one register of the operands of a mask.
 fn emit_mask_register<W: Width>(
-    op: OpiOp,
+    recipe: Recipe,
     i: &VInstr,
     cfg: &Cfg,
-    mask: MaskUse,
     register: u8,
     buf: &mut MicroBuf,
 )
-    requires bits { makes_bits op ≡ true }
     requires width { cfg.now.vtype.sew ≡ W.BITS }
-    requires reads { mask.reads ≡ reads op i.now cfg.now }
-    requires masked { mask.masked ≡ masked op i.now cfg.now }
     requires placed { IsMaskPlaced i.now register }
     requires length { cfg.now.vlen ≤ 65536 }
     requires few { register < 8 }
-    requires room { 400 ≤ buf.old.spare }
-    ensures ops { buf.new.ops ≡ buf.old.ops ++ mask_register_list op i.now cfg.now register }
-    ensures spare { buf.new.spare + (2 + cond mask.reads 1 0 + operations_in (truth_each_of op mask.reads cfg.now.vtype.sew) + free_count (is_ones cfg.now.policy) register) ≡ buf.old.spare }
+    requires room { mask_register_length recipe i.now cfg.now + free_count (is_ones cfg.now.policy) register ≤ buf.old.spare }
+    ensures ops { buf.new.ops ≡ buf.old.ops ++ mask_register_list recipe i.now cfg.now register }
+    ensures spare { buf.new.spare + (mask_register_length recipe i.now cfg.now + free_count (is_ones cfg.now.policy) register) ≡ buf.old.spare }
+    ensures made { IsMaskMade recipe i.now cfg.now register }
 {
     let first = first_of(cfg, register);
     let at = mask_place(i, register);
+    let mask = use_of(recipe, i);
     emit_windows(cfg, mask, first, buf);
-    emit_truth_kind::<W>(op, mask.reads, &at, buf);
+    emit_list::<W>(mask.list, &at, buf);
     emit_free_bits(cfg, mask.masked, register, buf);
     buf.push(MicroOp::PackMask {
         from: TRUTH_ROW,
@@ -178,27 +179,24 @@ fn emit_mask_register<W: Width>(
 
 // The operations on all registers of the operands of a mask, in rising order.
 pub(crate) fn emit_mask_registers<W: Width>(
-    op: OpiOp,
+    recipe: Recipe,
     i: &VInstr,
     cfg: &Cfg,
-    mask: MaskUse,
     count: u8,
     buf: &mut MicroBuf,
 )
-    requires bits { makes_bits op ≡ true }
     requires width { cfg.now.vtype.sew ≡ W.BITS }
-    requires reads { mask.reads ≡ reads op i.now cfg.now }
-    requires masked { mask.masked ≡ masked op i.now cfg.now }
     requires placed { (g : ℕ) → g < count → IsMaskPlaced i.now g }
     requires length { cfg.now.vlen ≤ 65536 }
     requires few { count ≤ 8 }
     requires some { 0 < count }
-    requires room { 3200 ≤ buf.old.spare }
-    ensures ops { buf.new.ops ≡ buf.old.ops ++ mask_registers_list op i.now cfg.now count }
-    ensures spare { buf.new.spare + (count * (2 + cond mask.reads 1 0 + operations_in (truth_each_of op mask.reads cfg.now.vtype.sew)) + cond (is_ones cfg.now.policy) 1 0) ≡ buf.old.spare }
+    requires room { count * mask_register_length recipe i.now cfg.now + cond (is_ones cfg.now.policy) 1 0 ≤ buf.old.spare }
+    ensures ops { buf.new.ops ≡ buf.old.ops ++ mask_registers_list recipe i.now cfg.now count }
+    ensures spare { buf.new.spare + (count * mask_register_length recipe i.now cfg.now + cond (is_ones cfg.now.policy) 1 0) ≡ buf.old.spare }
+    ensures made { (g : ℕ) → g < count → IsMaskMade recipe i.now cfg.now g }
 {
     for register in 0..count {
-        emit_mask_register::<W>(op, i, cfg, mask, register, buf);
+        emit_mask_register::<W>(recipe, i, cfg, register, buf);
     }
 }
 
@@ -206,7 +204,7 @@ pub(crate) fn emit_mask_registers<W: Width>(
 pub(crate) fn emit_mask_fill<W: Width>(cfg: &Cfg, to: u8, buf: &mut MicroBuf)
     requires width { cfg.now.vtype.sew ≡ W.BITS }
     requires to { to < 32 }
-    requires room { 2 ≤ buf.old.spare }
+    requires room { cond (is_ones cfg.now.policy) 2 0 ≤ buf.old.spare }
     ensures ops { buf.new.ops ≡ buf.old.ops ++ mask_fill_list cfg.now to }
     ensures spare { buf.new.spare + cond (is_ones cfg.now.policy) 2 0 ≡ buf.old.spare }
 {

@@ -1,6 +1,7 @@
 -- The classes of vector instructions by their operands: the class of each name, and what the instructions of each class
 -- have in the places of their registers (vector extension 1.0, sections 7 and 11 to 16).
 use Rattle.std.specs.Prelude.{ℕ, ◌+◌, ◌*◌, ◌/◌, Bool, true, false, nat_lt, List, [], ◌∷◌, Option, Some, None, if◌then◌else◌}
+use Rattle.std.specs.Option.{option_map_or}
 use Rattle.rvv_decode.specs.declared.instruction.VInstr.{VInstr}
 use Rattle.rvv_decode.specs.declared.instruction.Form.{Form}
 use Rattle.rvv_decode.specs.declared.instruction.Form.TheVariants.{V, X, I}
@@ -13,7 +14,7 @@ use Rattle.rvv_decode.specs.declared.instruction.OpmOp.TheVariants.{Vredsum, Vre
 use Rattle.rvv_decode.specs.declared.instruction.MemoryOp.{MemoryOp}
 use Rattle.rvv_decode.specs.declared.instruction.MemoryOp.TheVariants.{LoadUnitStride, LoadWholeRegister, LoadMask, LoadFaultOnlyFirst, LoadIndexedUnordered, LoadStrided, LoadIndexedOrdered, StoreUnitStride, StoreWholeRegister, StoreMask, StoreIndexedUnordered, StoreStrided, StoreIndexedOrdered}
 use Rattle.vtype_cfg.specs.declared.vtype.Vtype.{Vtype}
-use Rattle.vtype_cfg.specs.Groups.{Operand, mask_at, register_at, groups_at, whole_at}
+use Rattle.vtype_cfg.specs.Groups.{Operand, mask_at, register_at, groups_at, whole_at, group_registers}
 
 -- instructions whose operands obey the same rules
 pub data Class : Type 0 where
@@ -250,6 +251,23 @@ operand_at vt first (register eew) = Some (register_at eew first)
 operand_at vt first (group eew) = Some (groups_at vt 1 eew first)
 operand_at vt first (groups fields eew) = Some (groups_at vt fields eew first)
 operand_at vt first (whole count) = Some (whole_at count first)
+
+-- the bits of an element in a place, where a bit of a mask is one and an empty place has none; and how many registers the
+-- place takes
+abbrev pub width_at : Vtype → Place → ℕ
+width_at vt place = option_map_or (λ o. o.eew) (operand_at vt 0 place) 0
+
+abbrev pub count_at : Vtype → Place → ℕ
+count_at vt place = option_map_or (λ o. o.fields * group_registers o) (operand_at vt 0 place) 0
+
+-- the place holds a mask
+abbrev pub is_mask_place : Place → Bool
+is_mask_place nothing = false
+is_mask_place mask = true
+is_mask_place (register eew) = false
+is_mask_place (group eew) = false
+is_mask_place (groups fields eew) = false
+is_mask_place (whole count) = false
 
 -- vs1 names a register in vector forms alone
 abbrev pub in_form : Form → Place → Place

@@ -1,3 +1,4 @@
+use Rattle.micro_ir.proofs.Measuring.{measured-as}
 use Rattle.std.proofs.Common.{◌<◌, arith}
 use Rattle.gen_arith.proofs.Costs.{max-measured}
 use Rattle.gen_arith.proofs.Folded.{both-apart, not-work}
@@ -14,4 +15,4 @@ pub returns-clause-cost : goal.returns-clause-cost
 returns-clause-cost g c =
     let w = g.W.Width.BITS in
     let some : 0 < g.W.Width.BITS = let h = g.met.W.Width.least in omega arith in
-    (max-measured w c.args.at.now.a c.args.at.now.b c.args.at.now.to some c.requires.to).cost
+    measured-as _ _ _ _ (omega arith) (max-measured w c.args.at.now.a c.args.at.now.b c.args.at.now.to some c.requires.to)

@@ -1,5 +1,5 @@
 use Rattle.micro_ir.proofs.StepLists.{micros-one}
-use Rattle.frame_laws.specs.Pieces.{fill_step}
+use Rattle.micro_ir.specs.Pieces.{fill_step}
 use Rattle.gen_logic.proofs.FrameSteps.{fill-makes, fill-measured}
 use Rattle.gen_logic.proofs.frame.emit_fill.Goals as goal
 

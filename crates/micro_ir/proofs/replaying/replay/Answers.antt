@@ -1,6 +1,7 @@
-use Rattle.std.proofs.Common.{◌<◌, length, arith, refl, ◌∙◌, sym}
-use Rattle.micro_ir.specs.Replay.{replay, tally}
-use Rattle.micro_ir.proofs.Lists.{replay_more, tally_more, IsInRange-at, few-one, counts_and-assoc, counts_and-none}
+use Rattle.std.proofs.Common.{◌≡◌, Bool, true, false, ◌||◌, ◌<◌, length, take, arith, refl, ◌∙◌, ap, sym}
+use Rattle.micro_ir.specs.Replay.{replay, tally, state_of}
+use Rattle.micro_ir.proofs.Lists.{replay_more, tally_more, clips-none, IsInRange-at, few-one, counts_and-assoc, counts_and-none}
+use Rattle.micro_ir.proofs.Lift.{replay-num}
 use Rattle.micro_ir.proofs.replaying.replay.Goals as goal
 
 pub loop-i-init : goal.loop-i-init
@@ -32,3 +33,14 @@ loop-i-preserved c =
       updates = rw c.apply.ensures.counted (omega (arith, few.updates, p.updates));
       passes = rw c.apply.ensures.counted (omega (arith, few.passes, p.passes));
     }
+
+pub returns-clause-control : goal.returns-clause-control
+returns-clause-control c =
+    let ops = take c.args.first c.args.buf.now.ops in
+    let s = state_of c.args.chain.now c.args.ctl.now.num in
+    let before = c.args.ctl.now in
+    rw (replay-num ops s, clips-none ops s) (ap (λ (b : Bool). record before { clip = b }) (kept before.clip))
+  where
+    kept : (b : Bool) → b ≡ b || false
+    kept true = refl
+    kept false = refl

@@ -5,7 +5,7 @@ use Rattle.bit_laws.specs.Numbers.{bit_of}
 use Rattle.micro_ir.specs.Steps.{step_on, steps_on, AllFit}
 use Rattle.micro_ir.specs.WorkRows.{scalar_row}
 use Rattle.micro_ir.proofs.OneElement.{step-row, everywhere-fits}
-use Rattle.frame_laws.specs.Pieces.{splat}
+use Rattle.micro_ir.specs.Pieces.{splat}
 
 -- the scalar row holds the scalar's bits, and every other row stays
 pub splat-here : (w x : ℕ) (e : ℕ → ℕ → Bool) (j : ℕ) → j < w → steps_on (splat w x) e scalar_row j ≡ bit_of x j

@@ -5,10 +5,7 @@
 use Rattle.std.specs.Prelude.{ℕ, ◌+◌, ◌-◌, ◌^◌, Bool, cond, not, eqb, ℤ, pos, ◌-ℤ◌, int_lt, int_le, bit_and, bit_or, bit_xor}
 use Rattle.std.specs.Int.{from_bool}
 use lib.Dec.{ltb, leb}
-
--- a number of w bits with a sign, in two's complement
-abbrev pub signed : (w n : ℕ) → ℤ
-signed w n = cond (ltb n (2 ^ (w - 1))) (pos n) (pos n -ℤ pos (2 ^ w))
+use Rattle.bit_laws.specs.Signed.{signed}
 
 -- the sum (section 11.1)
 abbrev pub vadd : (w a b : ℕ) → ℕ

@@ -5,7 +5,7 @@ use Rattle.std.proofs.lemmas.Int.{ints}
 use Rattle.std.proofs.lemmas.Nat.{pow-add, mod-mul-add}
 use Rattle.std.proofs.Math.Nat.{mod-eq_of_lt}
 use Rattle.bit_laws.specs.Numbers.{low}
-use Rattle.element_ops.specs.Values.{signed}
+use Rattle.bit_laws.specs.Signed.{signed}
 
 -- a number with its highest bit inverted
 abbrev inverted : (w a : ℕ) → ℕ
