@@ -3,7 +3,7 @@
 use Rattle.std.specs.Prelude.{ℕ, Bool, true, false, cond, ◌&&◌, ◌||◌, not, ◌-◌, ◌^◌}
 use lib.Dec.{ltb}
 
--- before the first element that is computed; computed; left out by the mask; behind the last one
+-- before the first element that is computed; computed; left out by the mask; after the last one
 pub data Place : Type 0 where
   prestart : Place
   active : Place
@@ -23,6 +23,14 @@ is_active active = true
 is_active masked_off = false
 is_active tail = false
 
--- what a free element of w bits becomes: all ones where the policy is ones, and else what it was
-abbrev pub freed : (ones : Bool) (w old : ℕ) → ℕ
-freed ones w old = cond ones (2 ^ w - 1) old
+-- what an agnostic element of w bits becomes: all ones where the policy is ones, and else what it was
+abbrev pub agnostic_value : (ones : Bool) (w old : ℕ) → ℕ
+agnostic_value ones w old = cond ones (2 ^ w - 1) old
+
+-- Whether an element in such a place is agnostic, so that it may become all ones: one that is masked off, where
+-- `masked_too` says so, and one of the tail, where `tail_too` does.
+abbrev pub is_agnostic : (masked_too tail_too : Bool) → Place → Bool
+is_agnostic masked_too tail_too prestart = false
+is_agnostic masked_too tail_too active = false
+is_agnostic masked_too tail_too masked_off = masked_too
+is_agnostic masked_too tail_too tail = tail_too

@@ -3,7 +3,7 @@ use Rattle.std.proofs.Common.{◌≡◌, ℕ, ◌<◌, ◌≤◌, Bool, true, fa
 use Rattle.std.proofs.lemmas.Bool.{cases_Bool, cases_lt, lt-ltb, le-ltb, leb-true, le-leb}
 use Rattle.std.proofs.lemmas.Nat.Bits.{bit_at_ones}
 use Rattle.bit_laws.specs.Numbers.{low, bit_of}
-use Rattle.element_ops.specs.Places.{Place, prestart, active, masked_off, tail, freed}
+use Rattle.element_ops.specs.Places.{Place, prestart, active, masked_off, tail, agnostic_value}
 use Rattle.steer_net.specs.Network.{is_within, is_free}
 use Rattle.frame_laws.specs.Shapes.{Shape, Bounds, Bounded, is_prestart, UsualBoundsLaw}
 use Rattle.frame_laws.specs.Meaning.{outcome, place_in}
@@ -15,28 +15,28 @@ leb_not a b = ⊎_elim (λ (l : b < a). rw (lt-ltb b a l) (sym (gone a b l))) (�
     gone a b l = ⊎_elim (λ (t : leb a b ≡ true). absurd (omega (arith, leb-true a b t))) (λ (f : leb a b ≡ false). sym f) (cases_Bool (leb a b))
 
 -- a bit of an element as it ends, from the value's bit and the old one
-abbrev pub ends : (ones vma free x old : Bool) → Place → Bool
-ends ones vma free x old prestart = old
-ends ones vma free x old active = x
-ends ones vma free x old masked_off = cond (ones && vma) true old
-ends ones vma free x old tail = cond (ones && free) true old
+abbrev pub ends : (ones vma tail_too x old : Bool) → Place → Bool
+ends ones vma tail_too x old prestart = old
+ends ones vma tail_too x old active = x
+ends ones vma tail_too x old masked_off = cond (ones && vma) true old
+ends ones vma tail_too x old tail = cond (ones && tail_too) true old
 
-free_bit : (b : Bool) (w old j : ℕ) → j < w → bit_of (freed b w old) j ≡ cond b true (bit_of old j)
-free_bit true w old j below = rw (bit_at_ones w j below) refl
-free_bit false w old j below = refl
+bit_of-agnostic_value : (b : Bool) (w old j : ℕ) → j < w → bit_of (agnostic_value b w old) j ≡ cond b true (bit_of old j)
+bit_of-agnostic_value true w old j below = rw (bit_at_ones w j below) refl
+bit_of-agnostic_value false w old j below = refl
 
 -- a bit of what an element becomes
 pub outcome-bit : (i : Shape) (z old j : ℕ) (at : Place) → j < i.width
     → bit_of (outcome i z old at) j ≡ ends i.ones i.vma i.tail (bit_of (low i.width z) j) (bit_of old j) at
 outcome-bit i z old j prestart below = refl
 outcome-bit i z old j active below = refl
-outcome-bit i z old j masked_off below = free_bit (i.ones && i.vma) i.width old j below
-outcome-bit i z old j tail below = free_bit (i.ones && i.tail) i.width old j below
+outcome-bit i z old j masked_off below = bit_of-agnostic_value (i.ones && i.vma) i.width old j below
+outcome-bit i z old j tail below = bit_of-agnostic_value (i.ones && i.tail) i.width old j below
 
 -- p: prestart, q: below len
-core : (ones vma free p q m c x old : Bool)
-    → cond (ones && ((free && (not p && not q)) || ((m && vma) && ((not p && q) && not c)))) true (cond ((not p && q) && (not m || c)) x old)
-    ≡ ends ones vma free x old (cond p prestart (cond q (cond (not m || c) active masked_off) tail))
+core : (ones vma tail_too p q m c x old : Bool)
+    → cond (ones && ((tail_too && (not p && not q)) || ((m && vma) && ((not p && q) && not c)))) true (cond ((not p && q) && (not m || c)) x old)
+    ≡ ends ones vma tail_too x old (cond p prestart (cond q (cond (not m || c) active masked_off) tail))
 core true true true true true true c x old = refl
 core true false true true true true c x old = refl
 core true vma true true true false c x old = refl
@@ -85,7 +85,7 @@ apart true true false b c = refl
 apart true false a b c = refl
 apart false vma a b c = refl
 
-when_tail : (free f g : Bool) → (free ≡ true → f ≡ g) → (free && f) ≡ (free && g)
+when_tail : (tail_too f g : Bool) → (tail_too ≡ true → f ≡ g) → (tail_too && f) ≡ (tail_too && g)
 when_tail true f g h = h refl
 when_tail false f g h = refl
 
@@ -120,8 +120,8 @@ absorb false c = refl
 pub usual_bounds_law : UsualBoundsLaw
 usual_bounds_law i same some = record {
   window = λ e. rw (leb_not i.vstart e, same) (absorb (ltb e i.vstart) (ltb e i.len));
-  tail = λ free e.
-      let l : i.vstart < i.len = some free in
+  tail = λ tail_too e.
+      let l : i.vstart < i.len = some tail_too in
       ⊎_elim
       (λ (a : e < i.len). rw (leb_not i.len e, lt-ltb e i.len a) (sym (never (not (ltb e i.vstart || (ltb e i.from && true))))))
       (λ (a : i.len ≤ e). let b : i.vstart ≤ e = omega arith in rw (leb_not i.len e, same, le-ltb e i.len a, le-ltb e i.vstart b) refl)

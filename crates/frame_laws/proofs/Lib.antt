@@ -5,3 +5,5 @@ pub mod Windows
 pub mod Registers
 pub mod Costs
 pub mod Bytes
+pub mod Masks
+pub mod Classes

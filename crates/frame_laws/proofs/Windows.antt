@@ -111,7 +111,7 @@ windows-stand i b g s =
 
 -- ---- the fill
 
--- what the fill makes of a bit, by the bit of the row of free elements
+-- what the fill makes of a bit, by the bit of the row of agnostic elements
 pub filled : (b o : Bool) → cond (fires (0 ∷ []) (1 ∷ []) (λ r. b)) true o ≡ cond b true o
 filled true o = refl
 filled false o = refl
@@ -121,7 +121,7 @@ pub nothing : (a o : Bool) → o ≡ cond (a && false) true o
 nothing true o = refl
 nothing false o = refl
 
--- ones, where what is written into the row of free elements says so
+-- ones, where what is written into the row of agnostic elements says so
 fill_on : (w first to k col : ℕ) (what : ℕ → Bool) (s : Slices) → k * w + w ≤ 32 → col < s.columns → to < 32 → (r j : ℕ) → r ≤ scalar_row → j < w
     → element w k col (replay (micros w (fill_step w to ∷ [])) (numbered free_row w first what s)) r j
     ≡ cond (eqb r to && what (first + (col * (32 / w) + k))) true (element w k col s r j)

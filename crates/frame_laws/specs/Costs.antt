@@ -17,7 +17,7 @@ counts_times n c = record { searches = n * c.searches; updates = n * c.updates; 
 abbrev pub splat_counts : Shape → Counts
 splat_counts i = cond i.splat (record { searches = 2; updates = 2; passes = 0 }) no_counts
 
--- a search finds the free elements, and an update fills them; the windows cost nothing
+-- a search finds the agnostic elements, and an update fills them; the windows cost nothing
 abbrev pub fill_counts : Shape → Counts
 fill_counts i = cond i.ones (record { searches = 1; updates = 1; passes = 0 }) no_counts
 

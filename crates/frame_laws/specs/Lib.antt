@@ -7,3 +7,5 @@ pub mod Realising
 pub mod Laws
 pub mod Costs
 pub mod Bytes
+pub mod Masks
+pub mod Classes

@@ -2,7 +2,7 @@
 -- were before the instruction.
 use Rattle.std.specs.Prelude.{ℕ, Bool, ◌&&◌}
 use Rattle.bit_laws.specs.Numbers.{low}
-use Rattle.element_ops.specs.Places.{Place, prestart, active, masked_off, tail, place_of, freed}
+use Rattle.element_ops.specs.Places.{Place, prestart, active, masked_off, tail, place_of, agnostic_value}
 use Rattle.element_ops.specs.Elements.{Registers, element_in, with_elements_in}
 use Rattle.frame_laws.specs.Shapes.{Shape}
 
@@ -14,8 +14,8 @@ place_in i mask e = place_of i.vstart i.from i.len i.masked mask e
 abbrev pub outcome : Shape → (value old : ℕ) → Place → ℕ
 outcome i value old prestart = old
 outcome i value old active = low i.width value
-outcome i value old masked_off = freed (i.ones && i.vma) i.width old
-outcome i value old tail = freed (i.ones && i.tail) i.width old
+outcome i value old masked_off = agnostic_value (i.ones && i.vma) i.width old
+outcome i value old tail = agnostic_value (i.ones && i.tail) i.width old
 
 -- element e of the destination after the instruction
 unfoldable pub element_after : Shape → Registers → ℕ → ℕ

@@ -15,7 +15,7 @@ active_window i b g = Window active_row i.width (first_of i g) b.from i.len i.ma
 abbrev pub mask_window : Shape → Bounds → (g : ℕ) → List MicroOp
 mask_window i b g = cond i.reads (Window mask_row i.width (first_of i g) b.from i.len true ∷ []) []
 
--- ones into the free elements of register g, where free elements become ones
+-- ones into the agnostic elements of register g, where agnostic elements become ones
 abbrev pub fill : Shape → Bounds → (g : ℕ) → List MicroOp
 fill i b g =
     cond i.ones (Free free_row i.width (first_of i g) b.from b.until i.masked i.tail (i.masked && i.vma) ∷ micros i.width (fill_step i.width (i.vd + g) ∷ [])) []

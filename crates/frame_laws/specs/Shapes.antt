@@ -16,11 +16,11 @@ pub record Shape : Type 0 where
   pub reads : Bool
   -- whether elements whose mask bit is 0 are left out
   pub masked : Bool
-  -- whether free elements become ones, or stay
+  -- whether agnostic elements become ones, or stay
   pub ones : Bool
-  -- whether elements that the mask leaves out are free
+  -- whether elements that the mask leaves out are agnostic
   pub vma : Bool
-  -- whether elements of the tail are free
+  -- whether elements of the tail are agnostic
   pub tail : Bool
   -- the element that the instruction starts at; its elements run from `from` on and below `len`
   pub vstart : ℕ

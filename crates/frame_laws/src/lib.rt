@@ -1,54 +1,16 @@
-//! The frame of vector instructions, and its laws: the operations that stand round the lists that compute the registers
-//! of a destination, and what they make of the registers. It holds no code that runs; each function here is a law.
+//! The frame of vector instructions, and its laws: the operations that stand round the lists that compute the registers of
+//! a destination, or that tell a truth of each element for a mask, and what they make of the registers; and the classes of
+//! instructions by the operands that they read: for each, that the frame's program leaves the registers of the meaning
+//! where a kind's list realises its value. It holds no code that runs; each function here is a law.
 #![tactic(auto)]
 
-ghost use Rattle.frame_laws.specs.Bytes.{BytesLaw, BitsLaw};
-ghost use Rattle.frame_laws.specs.Laws.{FrameLaw, GroupLaw};
-ghost use Rattle.frame_laws.specs.Shapes.{UsualBoundsLaw};
-ghost use Rattle.frame_laws.specs.Costs.{TallyLaw, EvenTallyLaw, LengthLaw, RangeLaw};
+mod class_laws;
+mod group_laws;
+mod mask_laws;
 
-/// The program of an instruction leaves the registers of its meaning.
-pub fn frame_law()
-    ensures law { FrameLaw }
-{}
-
-/// The operations on the first registers of a group write these, and nothing else that later ones read.
-pub fn group_law()
-    ensures law { GroupLaw }
-{}
-
-/// The program of an instruction whose elements are whole bytes leaves the lists of bytes of its
-/// meaning.
-pub fn bytes_law()
-    ensures law { BytesLaw }
-{}
-
-/// The same where the destination is a mask.
-pub fn bits_law()
-    ensures law { BitsLaw }
-{}
-
-/// The bounds of most programs fit the places of the elements.
-pub fn usual_bounds_law()
-    ensures law { UsualBoundsLaw }
-{}
-
-/// The searches, updates and passes of a program.
-pub fn tally_law()
-    ensures law { TallyLaw }
-{}
-
-/// The same, where the lists of all registers count alike.
-pub fn even_tally_law()
-    ensures law { EvenTallyLaw }
-{}
-
-/// The length of a program whose lists are equally long.
-pub fn length_law()
-    ensures law { LengthLaw }
-{}
-
-/// A chain can run a program whose lists it can run.
-pub fn range_law()
-    ensures law { RangeLaw }
-{}
+pub use class_laws::{compared_bytes_law, plain_bytes_law, plain_law};
+pub use group_laws::{
+    bits_law, bytes_law, even_tally_law, frame_law, group_law, length_law, range_law, tally_law,
+    usual_bounds_law,
+};
+pub use mask_laws::{mask_frame_law, mask_law, mask_length_law, mask_range_law, mask_tally_law};

@@ -28,9 +28,9 @@ use Rattle.frame_laws.specs.Laws.{Framed}
 use Rattle.frame_laws.specs.Bytes as frame
 use Rattle.frame_laws.proofs.Ends.{usual_bounds_law}
 use Rattle.frame_laws.proofs.Costs.{even_tally_law, length_law, range_law}
-use Rattle.frame_classes.specs.Operands.{operand_of, IsReadable}
-use Rattle.frame_classes.specs.Plain.{plain_value, IsPlain}
-use Rattle.frame_classes.proofs.Plain.{plain_bytes_law}
+use Rattle.frame_laws.specs.Classes.Operands.{operand_of, IsReadable}
+use Rattle.frame_laws.specs.Classes.Plain.{plain_value, IsPlain}
+use Rattle.frame_laws.proofs.Classes.Plain.{plain_bytes_law}
 use Rattle.frame_meaning.specs.declared.Order.{Order}
 use Rattle.frame_meaning.specs.declared.Order.TheVariants.{Straight, Reversed, Second}
 use Rattle.frame_meaning.specs.Shapes.{operand_in, has_scalar, scalar_in, scalar_of, row_in, class_in, operands_in, value_in, elements_in, shape_in, program_in}

@@ -21,14 +21,14 @@ use Rattle.legal_groups.proofs.Groups.{compare_law, vlmax-held}
 use Rattle.frame_laws.specs.Shapes.{Shape, Bounded, usual_bounds}
 use Rattle.frame_laws.specs.Bytes.{mask_after}
 use Rattle.frame_laws.proofs.Ends.{usual_bounds_law}
-use Rattle.frame_masks.specs.Programs.{mask_of}
-use Rattle.frame_masks.specs.Laws.{MaskFramed}
-use Rattle.frame_masks.proofs.Costs.{mask_tally_law, mask_length_law}
-use Rattle.frame_masks.proofs.Ranges.{mask_range_law}
-use Rattle.frame_classes.specs.Operands.{operand_of}
-use Rattle.frame_classes.specs.Masks.{AllTell, mask_value, IsMaskReadable, IsCompared}
-use Rattle.frame_classes.proofs.Operands.{whole-register}
-use Rattle.frame_classes.proofs.Masks.{compared_bytes_law}
+use Rattle.frame_laws.specs.Masks.Programs.{mask_of}
+use Rattle.frame_laws.specs.Masks.Laws.{MaskFramed}
+use Rattle.frame_laws.proofs.Masks.Costs.{mask_tally_law, mask_length_law}
+use Rattle.frame_laws.proofs.Masks.Ranges.{mask_range_law}
+use Rattle.frame_laws.specs.Classes.Operands.{operand_of}
+use Rattle.frame_laws.specs.Classes.Compared.{AllTell, mask_value, IsMaskReadable, IsCompared}
+use Rattle.frame_laws.proofs.Classes.Operands.{whole-register}
+use Rattle.frame_laws.proofs.Classes.Compared.{compared_bytes_law}
 use Rattle.frame_meaning.specs.Shapes.{operand_in, has_scalar, scalar_in, scalar_of}
 use Rattle.frame_meaning.specs.Laws.{Runs}
 use Rattle.frame_meaning.specs.Costs.{AllMeasured}

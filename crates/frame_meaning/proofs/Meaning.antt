@@ -2,7 +2,7 @@
 use Rattle.std.proofs.Common.{◌≡◌, ℕ, ◌/◌, Bool, true, false, cond, ◌&&◌, ◌||◌, eqb, ltb, List, refl, sym, ◌∙◌, ap}
 use Rattle.std.specs.Int.{from_bool}
 use Rattle.element_ops.specs.Elements.{Registers, element_of, mask_bit_of, with_elements, with_mask}
-use Rattle.element_ops.specs.Places.{Place, prestart, active, masked_off, tail, freed}
+use Rattle.element_ops.specs.Places.{Place, prestart, active, masked_off, tail, agnostic_value}
 use Rattle.vtype_cfg.specs.declared.configuration.Cfg.{Cfg}
 use Rattle.rvv_meaning.specs.Elementwise.{Elementwise, makes_mask, is_ones, place, old_element, element_at_place, element_after, registers_by, registers_after}
 use Rattle.frame_laws.specs.Meaning.{outcome}
@@ -12,7 +12,7 @@ use Rattle.frame_meaning.specs.Shapes.{shape_of}
 use Rattle.frame_meaning.specs.Laws.{MeaningLaw, MaskMeaningLaw}
 
 module _ (c : Cfg) (i : Elementwise) (reads splat : Bool) (x w : ℕ) (result : Registers → ℕ → Bool → ℕ) (v : List (List ℕ)) where
-  stays : (ones : Bool) (width old : ℕ) → old ≡ freed (ones && false) width old
+  stays : (ones : Bool) (width old : ℕ) → old ≡ agnostic_value (ones && false) width old
   stays true width old = refl
   stays false width old = refl
 
@@ -21,8 +21,8 @@ module _ (c : Cfg) (i : Elementwise) (reads splat : Bool) (x w : ℕ) (result : 
       → outcome (shape_of c i reads splat x w result) (i.value v e) old p ≡ element_at_place c i v (is_ones c.policy) p e
   at_place e old prestart same = same ∙ stays (is_ones c.policy) i.width (old_element c i v e)
   at_place e old active same = refl
-  at_place e old masked_off same = ap (λ (z : ℕ). freed (is_ones c.policy && c.vtype.vma) i.width z) same
-  at_place e old tail same = ap (λ (z : ℕ). freed (is_ones c.policy && (ltb c.vstart i.vl && (makes_mask i || c.vtype.vta))) i.width z) same
+  at_place e old masked_off same = ap (λ (z : ℕ). agnostic_value (is_ones c.policy && c.vtype.vma) i.width z) same
+  at_place e old tail same = ap (λ (z : ℕ). agnostic_value (is_ones c.policy && (ltb c.vstart i.vl && (makes_mask i || c.vtype.vta))) i.width z) same
 
   -- what stands in an element before
   old_number : (e : ℕ) → makes_mask i ≡ false → element_of (c.vlen / 8) v i.vd i.width e ≡ old_element c i v e

@@ -22,14 +22,14 @@ abbrev pub AllMeasured : (registers : ℕ) → (body : ℕ → List MicroOp) →
 AllMeasured registers body each long = (g : ℕ) → g < registers → ListMeasured each long (body g)
 
 -- The searches, updates and passes of an instruction whose list for a register makes `each`: those that put its scalar into
--- a row, and for each register those of its list and of the fill, where free elements become ones.
+-- a row, and for each register those of its list and of the fill, where agnostic elements become ones.
 unfoldable pub cost_of : VInstr → Cfg → (each : Counts) → Counts
 cost_of i c each =
     counts_and (cond (has_scalar i.form) (record { searches = 2; updates = 2; passes = 0 }) no_counts)
     (counts_times (group_count c.vtype) (counts_and each (cond (is_ones c.policy) (record { searches = 1; updates = 1; passes = 0 }) no_counts)))
 
 -- The number of its operations, where the list of a register has so many: one marks the active elements of a register, one
--- more lays out their mask bits where the mask is an operand, and three fill its free elements.
+-- more lays out their mask bits where the mask is an operand, and three fill its agnostic elements.
 unfoldable pub length_of : VInstr → Cfg → (reads : Bool) → (long : ℕ) → ℕ
 length_of i c reads long = cond (has_scalar i.form) 4 0 + group_count c.vtype * (1 + cond reads 1 0 + cond (is_ones c.policy) 3 0 + long)
 

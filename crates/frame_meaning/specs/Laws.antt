@@ -15,7 +15,7 @@ use Rattle.frame_laws.specs.Bytes.{mask_after}
 use Rattle.frame_laws.specs.Bytes as frame
 use Rattle.legal_groups.specs.Facts.{group_count}
 use Rattle.micro_ir.specs.declared.op.MicroOp.{MicroOp}
-use Rattle.frame_classes.specs.Plain.{AllCompute}
+use Rattle.frame_laws.specs.Classes.Plain.{AllCompute}
 use Rattle.frame_meaning.specs.declared.Order.{Order}
 use Rattle.frame_meaning.specs.declared.Order.TheVariants.{Second}
 use Rattle.frame_meaning.specs.Shapes.{shape_of, class_in, operands_in, value_in, program_in}

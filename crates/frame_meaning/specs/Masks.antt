@@ -18,9 +18,9 @@ use Rattle.rvv_meaning.specs.Operations.{Operation, reads_mask, elements_at, on_
 use Rattle.legal_groups.specs.Facts.{group_count}
 use Rattle.frame_laws.specs.Shapes.{Shape, usual_bounds}
 use Rattle.frame_laws.specs.Costs.{counts_times}
-use Rattle.frame_masks.specs.Programs.{mask_program}
-use Rattle.frame_classes.specs.Operands.{group, operand_in}
-use Rattle.frame_classes.specs.Masks.{Pair, Truth, AllTell}
+use Rattle.frame_laws.specs.Masks.Programs.{mask_program}
+use Rattle.frame_laws.specs.Classes.Operands.{group, operand_in}
+use Rattle.frame_laws.specs.Classes.Compared.{Pair, Truth, AllTell}
 use Rattle.frame_meaning.specs.Shapes as plain
 use Rattle.frame_meaning.specs.Shapes.{shape_of, has_scalar, scalar_of}
 use Rattle.frame_meaning.specs.Laws.{Runs}
@@ -79,14 +79,14 @@ CompareMeaningLaw = (o : Operation) (truth : (w a b : ℕ) → Bool → Bool) �
 -- ---- what it costs
 
 -- The searches, updates and passes of an instruction whose list for a register makes `each`: those that put its scalar into
--- a row, those of the lists, and once those of the fill, where free elements become ones.
+-- a row, those of the lists, and once those of the fill, where agnostic elements become ones.
 unfoldable pub compare_cost_of : VInstr → Cfg → (each : Counts) → Counts
 compare_cost_of i c each =
     counts_and (cond (has_scalar i.form) (record { searches = 2; updates = 2; passes = 0 }) no_counts)
     (counts_and (counts_times (group_count c.vtype) each) (cond (is_ones c.policy) (record { searches = 1; updates = 1; passes = 0 }) no_counts))
 
 -- The number of its operations, where the list of a register has so many: one marks the active elements of a register, one
--- packs their truths, one more lays out their mask bits where the mask is an operand, and three fill the free elements.
+-- packs their truths, one more lays out their mask bits where the mask is an operand, and three fill the agnostic elements.
 unfoldable pub compare_length_of : VInstr → Cfg → (reads : Bool) → (long : ℕ) → ℕ
 compare_length_of i c reads long = cond (has_scalar i.form) 4 0 + (group_count c.vtype * (2 + cond reads 1 0 + long) + cond (is_ones c.policy) 3 0)
 

@@ -14,8 +14,8 @@ use Rattle.rvv_meaning.specs.Operations.{Operation, reads_mask, immediate_bits, 
 use Rattle.legal_groups.specs.Facts.{group_count}
 use Rattle.frame_laws.specs.Shapes.{Shape, usual_bounds}
 use Rattle.frame_laws.specs.Programs.{program}
-use Rattle.frame_classes.specs.Operands.{Operand, group, scalar}
-use Rattle.frame_classes.specs.Plain.{Operands, Value, plain_result}
+use Rattle.frame_laws.specs.Classes.Operands.{Operand, group, scalar}
+use Rattle.frame_laws.specs.Classes.Plain.{Operands, Value, plain_result}
 use Rattle.frame_meaning.specs.declared.Order.{Order}
 use Rattle.frame_meaning.specs.declared.Order.TheVariants.{Straight, Reversed, Second}
 

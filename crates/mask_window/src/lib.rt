@@ -1,14 +1,14 @@
-//! The operations that mark the elements of a register by their places: those that an instruction
-//! computes, and those that it leaves free.
+//! The operations that mark the elements of a register by their places: those that an instruction computes, and those
+//! that it leaves agnostic.
 #![tactic(auto)]
 
 ghost use Rattle.std.specs.Prelude.{◌≡◌, ◌+◌, ◌<◌, [], ◌∷◌, ◌++◌};
-ghost use Rattle.mask_window.specs.Operations.{active_operation, free_operation, MarksActive, MarksFree};
+ghost use Rattle.mask_window.specs.Operations.{active_operation, free_operation, MarksActive, MarksAgnostic};
 
 use micro_ir::{MicroBuf, MicroOp};
 use vtype_cfg::Cfg;
 
-// The rows of active and of free elements.
+// The rows of active and of agnostic elements.
 const ACTIVE_ROW: u8 = 32;
 
 const FREE_ROW: u8 = 52;
@@ -32,14 +32,14 @@ pub fn active(buf: &mut MicroBuf, cfg: &Cfg, width: u8, first: u32, masked: bool
     });
 }
 
-/// Marks the free elements of a register: those that the mask leaves out, where `vma` is set; and
-/// those of the tail where `tail` says so, unless `vstart` is not below `vl`.
+/// Marks the agnostic elements of a register: those that the mask leaves out, where `vma` is set, and those of the tail,
+/// where `tail` says so and `vstart` is below `vl` (vector extension 1.0, section 3.4.3).
 pub fn free(buf: &mut MicroBuf, cfg: &Cfg, width: u8, first: u32, masked: bool, tail: bool)
     requires room { 0 < buf.old.spare }
     ensures ops { buf.new.ops
         ≡ buf.old.ops ++ free_operation cfg.now width first masked tail ∷ [] }
     ensures spare { buf.new.spare + 1 ≡ buf.old.spare }
-    ensures places { MarksFree cfg.now masked tail }
+    ensures places { MarksAgnostic cfg.now masked tail }
 {
     buf.push(MicroOp::Free {
         row: FREE_ROW,

@@ -5,7 +5,7 @@ use Rattle.std.specs.Int.{from_bool}
 use lib.Dec.{ltb}
 use Rattle.bit_laws.specs.Numbers.{low}
 use Rattle.element_ops.specs.Elements.{element_of, mask_bit_of, with_elements, with_mask}
-use Rattle.element_ops.specs.Places.{Place, prestart, active, masked_off, tail, place_of, freed, is_active}
+use Rattle.element_ops.specs.Places.{Place, prestart, active, masked_off, tail, place_of, agnostic_value, is_active, is_agnostic}
 use Rattle.vtype_cfg.specs.Settings.{vtype_of}
 use Rattle.vtype_cfg.specs.declared.configuration.Cfg.{Cfg}
 use Rattle.vtype_cfg.specs.declared.configuration.Policy.{Policy}
@@ -39,7 +39,7 @@ makes_mask i = eqb i.width 1
 abbrev pub size_of : Cfg → ℕ
 size_of c = c.vlen / 8
 
--- the policy leaves all ones in free elements
+-- the policy leaves all ones in agnostic elements
 abbrev pub is_ones : Policy → Bool
 is_ones Keep = false
 is_ones Ones = true
@@ -50,34 +50,35 @@ module _ (c : Cfg) (i : Elementwise) (v : List (List ℕ)) where
   abbrev pub place : ℕ → Place
   place e = place_of c.vstart i.from i.len i.masked (mask_bit_of v 0) e
 
-  -- Whether an element in such a place is free, so that it may become all ones: one that is masked off where vma is set, and
-  -- one of the tail where vta is set, or where the result is a mask. No tail is free where vstart is not below vl.
-  abbrev pub is_free_at : Place → Bool
-  is_free_at prestart = false
-  is_free_at active = false
-  is_free_at masked_off = c.vtype.vma
-  is_free_at tail = ltb c.vstart i.vl && (makes_mask i || c.vtype.vta)
+  -- The elements of the tail are agnostic where vta is set, or where the result is a mask, but none of them is where vstart
+  -- is not below vl.
+  abbrev pub has_agnostic_tail : Bool
+  has_agnostic_tail = ltb c.vstart i.vl && (makes_mask i || c.vtype.vta)
+
+  -- whether an element in such a place is agnostic: one that is masked off is where vma is set
+  abbrev pub is_agnostic_at : Place → Bool
+  is_agnostic_at p = is_agnostic c.vtype.vma has_agnostic_tail p
 
   -- an element of the destination before the instruction
   abbrev pub old_element : ℕ → ℕ
   old_element e = cond (makes_mask i) (from_bool (mask_bit_of v i.vd e)) (element_of (size_of c) v i.vd i.width e)
 
-  -- what becomes of an element: it is computed, or freed, or it stays
+  -- what becomes of an element: it is computed, or it is agnostic, or it stays
   abbrev pub element_at_place : (ones : Bool) → Place → ℕ → ℕ
   element_at_place ones active e = low i.width (i.value v e)
-  element_at_place ones p e = freed (ones && is_free_at p) i.width (old_element e)
+  element_at_place ones p e = agnostic_value (ones && is_agnostic_at p) i.width (old_element e)
 
   unfoldable pub element_after : (ones : Bool) → ℕ → ℕ
   element_after ones e = element_at_place ones (place e) e
 
-  -- the registers after the instruction, where `ones` says which of the free elements become all ones
+  -- the registers after the instruction, where `ones` says which of the agnostic elements become all ones
   unfoldable pub registers_by : (ones : ℕ → Bool) → List (List ℕ)
   registers_by ones =
       cond (makes_mask i)
       (with_mask v i.vd (λ e. eqb (element_after (ones e) e) 1))
       (with_elements (size_of c) v i.vd i.registers i.width (λ e. element_after (ones e) e))
 
-  -- the registers after the instruction under the policy of the configuration: all free elements become all ones, or none
+  -- the registers after the instruction under the policy of the configuration: all agnostic elements become all ones, or none
   abbrev pub registers_after : List (List ℕ)
   registers_after = registers_by (λ e. is_ones c.policy)
 

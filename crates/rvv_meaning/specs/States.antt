@@ -140,7 +140,7 @@ after_flow (Traps t) c taken = record c { mode = Trapped t }
 abbrev pub executed_scalar : Instr → Core → List ℕ → Core
 executed_scalar i c taken = after_flow (effect_at i c).flow (with_effect (effect_at i c) c) taken
 
--- the effect of a vector instruction on the machine, and the machine with it: under the policy each free element becomes all
+-- the effect of a vector instruction on the machine, and the machine with it: under the policy each agnostic element becomes all
 -- ones, or none does
 abbrev pub vector_effect_at : VInstr → Core → VectorEffect
 vector_effect_at i c = vector_effect i c.regs c.csrs c.mem c.vectors c.policy

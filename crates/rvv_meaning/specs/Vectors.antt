@@ -23,7 +23,7 @@ use Rattle.rvv_meaning.specs.Operations.{operation_for, on_elements}
 use Rattle.rvv_meaning.specs.Scalar.Registers.{written}
 
 -- What a vector instruction leaves: where the program goes on, the scalar registers, the control registers, the memory, and
--- the vector registers, where `ones` says which of the free elements become all ones, element by element.
+-- the vector registers, where `ones` says which of the agnostic elements become all ones, element by element.
 pub record VectorEffect : Type 0 where
   pub flow : Flow
   pub regs : List ℕ

@@ -24,12 +24,12 @@ use Rattle.legal_groups.proofs.Groups.{plain_law, move_law, compare_law}
 use Rattle.rvv_meaning.specs.Elementwise.{Elementwise, registers_after, clips_below, clips as clips_elements}
 use Rattle.rvv_meaning.specs.Operations.{Operation, operation_for, on_elements, elements_at, reads_mask}
 use Rattle.rvv_meaning.specs.Vectors.{left_of}
-use Rattle.frame_classes.specs.Operands.{row_of}
-use Rattle.frame_classes.specs.Plain.{AllCompute}
-use Rattle.frame_classes.specs.Masks.{AllTell}
+use Rattle.frame_laws.specs.Classes.Operands.{row_of}
+use Rattle.frame_laws.specs.Classes.Plain.{AllCompute}
+use Rattle.frame_laws.specs.Classes.Compared.{AllTell}
 use Rattle.frame_laws.specs.Programs.{program, first_registers, one_register}
 use Rattle.frame_laws.specs.Shapes.{Shape, usual_bounds}
-use Rattle.frame_masks.specs.Programs as masks
+use Rattle.frame_laws.specs.Masks.Programs as masks
 use Rattle.frame_meaning.specs.declared.Order.{Order}
 use Rattle.frame_meaning.specs.declared.Order.TheVariants.{Straight, Reversed, Second}
 use Rattle.frame_meaning.specs.Shapes.{operand_in, class_in, operands_in, value_in, elements_in, shape_in, program_in}

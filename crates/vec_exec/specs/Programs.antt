@@ -6,7 +6,7 @@ use Rattle.bit_rows.specs.Slices.{Slices}
 use Rattle.cam_chain.specs.ChainValue.{no_counts}
 use Rattle.cam_chain.specs.declared.counts.Counts.{Counts}
 use Rattle.cam_chain.specs.Views.{registers_of}
-use Rattle.frame_classes.specs.Operands.{row_of}
+use Rattle.frame_laws.specs.Classes.Operands.{row_of}
 use Rattle.frame_meaning.specs.Costs.{cost_of}
 use Rattle.frame_meaning.specs.Masks.{compare_cost_of, compare_operands}
 use Rattle.frame_meaning.specs.Shapes.{has_scalar, scalar_of, operands_in}

@@ -1,7 +1,7 @@
 // The rows of an instruction's operands, and its scalar.
 ghost use Rattle.std.specs.Prelude.{◌≡◌, ◌⊎◌, ◌+◌, ◌<◌};
 ghost use Rattle.bit_laws.specs.Signed.{extended};
-ghost use Rattle.frame_classes.specs.Operands.{row_of};
+ghost use Rattle.frame_laws.specs.Classes.Operands.{row_of};
 ghost use Rattle.frame_meaning.specs.Masks.{compare_operands};
 ghost use Rattle.frame_meaning.specs.Shapes.{operand_in, operands_in};
 ghost use Rattle.micro_ir.specs.WorkRows.{IsOperandRow};

@@ -1,4 +1,0 @@
--- The proofs of the classes' laws.
-pub mod Operands
-pub mod Plain
-pub mod Masks

@@ -1,4 +1,0 @@
--- Classes of vector instructions, by the operands that they read.
-pub mod Operands
-pub mod Plain
-pub mod Masks

@@ -1,5 +1,0 @@
-use Rattle.frame_laws.proofs.Bytes.{bits_law}
-use Rattle.frame_laws.proofs.bits_law.Goals as goal
-
-pub returns : goal.returns
-returns c = record { law = bits_law }

@@ -1,5 +1,0 @@
-use Rattle.frame_laws.proofs.Bytes.{bytes_law}
-use Rattle.frame_laws.proofs.bytes_law.Goals as goal
-
-pub returns : goal.returns
-returns c = record { law = bytes_law }

@@ -1,0 +1,5 @@
+use Rattle.frame_laws.proofs.Classes.Plain.{plain_bytes_law}
+use Rattle.frame_laws.proofs.class_laws.plain_bytes_law.Goals as goal
+
+pub returns : goal.returns
+returns c = record { law = plain_bytes_law }

@@ -1,5 +1,0 @@
-use Rattle.frame_laws.proofs.Costs.{range_law}
-use Rattle.frame_laws.proofs.range_law.Goals as goal
-
-pub returns : goal.returns
-returns c = record { law = range_law }

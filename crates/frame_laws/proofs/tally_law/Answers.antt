@@ -1,5 +1,0 @@
-use Rattle.frame_laws.proofs.Costs.{tally_law}
-use Rattle.frame_laws.proofs.tally_law.Goals as goal
-
-pub returns : goal.returns
-returns c = record { law = tally_law }

@@ -1,0 +1,4 @@
+-- Classes of vector instructions, by the operands that they read.
+pub mod Operands
+pub mod Plain
+pub mod Compared

@@ -1,0 +1,63 @@
+-- The class of plain instructions: each element is computed from the elements at the same place of up to three operands,
+-- which are as wide.
+use Rattle.std.specs.Prelude.{◌≡◌, ℕ, ◌+◌, ◌*◌, ◌/◌, ◌<◌, Bool, List}
+use Rattle.bit_rows.specs.Slices.{Slices}
+use Rattle.cam_chain.specs.Views.{registers_of}
+use Rattle.element_ops.specs.Elements.{Registers, mask_bit_of}
+use Rattle.micro_ir.specs.declared.op.MicroOp.{MicroOp}
+use Rattle.micro_ir.specs.Replay.{replay}
+use Rattle.frame_laws.specs.Shapes.{Shape, Bounds, Bounded}
+use Rattle.frame_laws.specs.Programs.{program}
+use Rattle.frame_laws.specs.Meaning.{after}
+use Rattle.micro_ir.specs.Kinds.{Realises}
+use Rattle.frame_laws.specs.Laws.{Framed, Holds}
+use Rattle.frame_laws.specs.Bytes.{size_of, registers_after}
+use Rattle.frame_laws.specs.Classes.Operands.{Operand, operand_in, operand_of, row_of, IsReadable}
+
+-- the operands: a, b and, where a kind has a third, the addend
+pub record Operands : Type 0 where
+  pub a : Operand
+  pub b : Operand
+  pub addend : Operand
+
+-- the value of an element, from the operands' numbers and the mask bit
+abbrev pub Value : Type 0
+Value = (a b addend : ℕ) → Bool → ℕ
+
+-- the result of an element, from registers that are bits
+abbrev pub plain_result : (vlen w x : ℕ) → Operands → Value → Registers → ℕ → Bool → ℕ
+plain_result vlen w x with value v e m = value (operand_in with.a vlen w x v e) (operand_in with.b vlen w x v e) (operand_in with.addend vlen w x v e) m
+
+-- and from registers that are lists of bytes
+abbrev pub plain_value : Shape → Operands → Value → List (List ℕ) → ℕ → ℕ
+plain_value i with value v e =
+    value (operand_of with.a (size_of i) i.width i.scalar v e) (operand_of with.b (size_of i) i.width i.scalar v e) (operand_of with.addend (size_of i) i.width i.scalar v e)
+    (mask_bit_of v 0 e)
+
+-- What a plain instruction with these operands needs, on slices of so many columns.
+pub record IsPlain (i : Shape) (with : Operands) (value : Value) (columns : ℕ) : Type 0 where
+  pub framed : Framed i columns
+  pub result : (v : Registers) (e : ℕ) (m : Bool) → i.result v e m ≡ plain_result i.vlen i.width i.scalar with value v e m
+  pub a : IsReadable i with.a
+  pub b : IsReadable i with.b
+  pub addend : IsReadable i with.addend
+
+-- The list of each register of the destination realises the value, from the rows of the operands.
+abbrev pub AllCompute : (width vd registers : ℕ) (reads : Bool) → Operands → Value → (body : ℕ → List MicroOp) → Type 0
+AllCompute width vd registers reads with value body =
+    (g : ℕ) → g < registers
+    → Realises width (vd + g) reads (λ n m. value (n (row_of with.a g)) (n (row_of with.b g)) (n (row_of with.addend g)) m) (body g)
+
+-- The program of a plain instruction whose lists realise its value leaves the registers of its meaning.
+abbrev pub PlainLaw : Type 0
+PlainLaw =
+    (i : Shape) (b : Bounds) (with : Operands) (value : Value) (body : ℕ → List MicroOp) (v : Registers) (s : Slices)
+    → IsPlain i with value s.columns → Bounded i b → AllCompute i.width i.vd i.registers i.reads with value body → Holds i.vlen s v
+    → Holds i.vlen (replay (program i b body) s) (after i v)
+
+-- The same on lists of bytes, where elements are whole bytes.
+abbrev pub PlainBytesLaw : Type 0
+PlainBytesLaw =
+    (i : Shape) (b : Bounds) (with : Operands) (value : Value) (body : ℕ → List MicroOp) (s : Slices)
+    → IsPlain i with value s.columns → Bounded i b → AllCompute i.width i.vd i.registers i.reads with value body → 0 < s.columns → 8 * (i.width / 8) ≡ i.width
+    → registers_of (replay (program i b body) s) ≡ registers_after i (plain_value i with value (registers_of s)) (registers_of s)

@@ -1,0 +1,18 @@
+// The laws of the classes of vector instructions, by the operands that they read.
+ghost use Rattle.frame_laws.specs.Classes.Plain.{PlainLaw, PlainBytesLaw};
+ghost use Rattle.frame_laws.specs.Classes.Compared.{ComparedBytesLaw};
+
+/// The program of a plain instruction leaves the registers of its meaning.
+pub fn plain_law()
+    ensures law { PlainLaw }
+{}
+
+/// The same on registers that are lists of bytes.
+pub fn plain_bytes_law()
+    ensures law { PlainBytesLaw }
+{}
+
+/// The program of an instruction that makes a mask from two operands leaves the registers of its meaning.
+pub fn compared_bytes_law()
+    ensures law { ComparedBytesLaw }
+{}

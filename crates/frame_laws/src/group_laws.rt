@@ -1,0 +1,51 @@
+// The laws of the frame of the instructions that write a group of registers.
+ghost use Rattle.frame_laws.specs.Bytes.{BytesLaw, BitsLaw};
+ghost use Rattle.frame_laws.specs.Laws.{FrameLaw, GroupLaw};
+ghost use Rattle.frame_laws.specs.Shapes.{UsualBoundsLaw};
+ghost use Rattle.frame_laws.specs.Costs.{TallyLaw, EvenTallyLaw, LengthLaw, RangeLaw};
+
+/// The program of an instruction leaves the registers of its meaning.
+pub fn frame_law()
+    ensures law { FrameLaw }
+{}
+
+/// The operations on the first registers of a group write these, and nothing else that later ones read.
+pub fn group_law()
+    ensures law { GroupLaw }
+{}
+
+/// The program of an instruction whose elements are whole bytes leaves the lists of bytes of its
+/// meaning.
+pub fn bytes_law()
+    ensures law { BytesLaw }
+{}
+
+/// The same where the destination is a mask.
+pub fn bits_law()
+    ensures law { BitsLaw }
+{}
+
+/// The bounds of most programs fit the places of the elements.
+pub fn usual_bounds_law()
+    ensures law { UsualBoundsLaw }
+{}
+
+/// The searches, updates and passes of a program.
+pub fn tally_law()
+    ensures law { TallyLaw }
+{}
+
+/// The same, where the lists of all registers count alike.
+pub fn even_tally_law()
+    ensures law { EvenTallyLaw }
+{}
+
+/// The length of a program whose lists are equally long.
+pub fn length_law()
+    ensures law { LengthLaw }
+{}
+
+/// A chain can run a program whose lists it can run.
+pub fn range_law()
+    ensures law { RangeLaw }
+{}
