@@ -22,7 +22,7 @@ use Rattle.rvv_meaning.specs.Elementwise.{makes_mask, registers_after}
 use Rattle.rvv_meaning.specs.Operations.{Operation, reads_mask, immediate_bits, elements_at, on_elements}
 use Rattle.rvv_meaning.specs.Operations as meaning
 use Rattle.legal_groups.specs.Facts.{group_count, SameOrApart, SewGroups}
-use Rattle.legal_groups.proofs.Groups.{plain_law, move_law}
+use Rattle.legal_groups.proofs.Groups.{legal_plain_law, legal_move_law}
 use Rattle.frame_laws.specs.Shapes.{Shape, Bounded, usual_bounds}
 use Rattle.frame_laws.specs.Laws.{Framed}
 use Rattle.frame_laws.specs.Bytes as frame
@@ -33,9 +33,9 @@ use Rattle.frame_laws.specs.Classes.Plain.{plain_value, IsPlain}
 use Rattle.frame_laws.proofs.Classes.Plain.{plain_bytes_law}
 use Rattle.frame_meaning.specs.declared.Order.{Order}
 use Rattle.frame_meaning.specs.declared.Order.TheVariants.{Straight, Reversed, Second}
-use Rattle.frame_meaning.specs.Shapes.{operand_in, has_scalar, scalar_in, scalar_of, row_in, class_in, operands_in, value_in, elements_in, shape_in, program_in}
+use Rattle.frame_meaning.specs.Shapes.{source_in_vs1, has_scalar, scalar_in, scalar_of, row_in, class_in, operands_in, value_in, elements_in, shape_in, program_in}
 use Rattle.frame_meaning.specs.Laws.{Runs, IgnoresFirst, ElementsMeaningLaw}
-use Rattle.frame_meaning.specs.Costs.{cost_of, length_of, Measured, ElementsCostLaw}
+use Rattle.frame_meaning.specs.Costs.{cost_of, length_of, ElementsMeasured, ElementsCostLaw}
 use Rattle.frame_meaning.proofs.Meaning.{meaning_law}
 
 -- ---- widths
@@ -84,14 +84,14 @@ count-sew vt some =
 
 -- ---- operands
 
-second-readable : (sh : Shape) (f : Form) (vs1 : ℕ) → (f ≡ V → SameOrApart sh.registers sh.vd vs1) → sh.splat ≡ has_scalar f → sh.scalar_width ≡ sh.width → IsReadable sh (operand_in f vs1)
+second-readable : (sh : Shape) (f : Form) (vs1 : ℕ) → (f ≡ V → SameOrApart sh.registers sh.vd vs1) → sh.splat ≡ has_scalar f → sh.scalar_width ≡ sh.width → IsReadable sh (source_in_vs1 f vs1)
 second-readable sh V vs1 beside splat wide = beside refl
 second-readable sh X vs1 beside splat wide = (splat, wide)
 second-readable sh I vs1 beside splat wide = (splat, wide)
 
 -- the second operand is that of the meaning
 pub second-value : (i : VInstr) (c : Cfg) (x : ℕ) (at : Row) (o : Operation) (f : Form) (v : List (List ℕ)) (e : ℕ) → at.vs1 ≡ group_place c.vtype.sew → meaning.value_width i c x at o ≡ c.vtype.sew → 8 ≤ c.vtype.sew → i.vs1 < 32
-    → operand_of (operand_in f i.vs1) (c.vlen / 8) c.vtype.sew (scalar_in f o.signed_immediate c.vtype.sew i.vs1 x) v e ≡ meaning.operand_in i c x at o f v e
+    → operand_of (source_in_vs1 f i.vs1) (c.vlen / 8) c.vtype.sew (scalar_in f o.signed_immediate c.vtype.sew i.vs1 x) v e ≡ meaning.second_operand i c x at o f v e
 second-value i c x at o V v e place wide least small = rw (place, wide) (sym (extended-same o.signed_b c.vtype.sew (element_of (c.vlen / 8) v i.vs1 c.vtype.sew e)))
 second-value i c x at o X v e place wide least small = rw (place, wide) (sym (extended-same o.signed_b c.vtype.sew _))
 second-value i c x at o I v e place wide least small = rw wide (mod-eq_of_lt (immediate-fits o.signed_immediate c.vtype.sew i.vs1 least small))
@@ -135,15 +135,15 @@ module _ (order : Order) (o : Operation) (i : VInstr) (c : Cfg) (x : ℕ) where
 -- ---- what the classes say of the operands
 
 sew-groups : (order : Order) (i : VInstr) (c : Cfg) (s : Slices) → Runs i c s → class_of i.op ≡ class_in order → SewGroups i c.vtype
-sew-groups Straight i c s runs class = (plain_law i c.vtype c.vstart runs.setting runs.legal class).0
-sew-groups Reversed i c s runs class = (plain_law i c.vtype c.vstart runs.setting runs.legal class).0
-sew-groups Second i c s runs class = move_law i c.vtype c.vstart runs.setting runs.legal class
+sew-groups Straight i c s runs class = (legal_plain_law i c.vtype c.vstart runs.setting runs.legal class).0
+sew-groups Reversed i c s runs class = (legal_plain_law i c.vtype c.vstart runs.setting runs.legal class).0
+sew-groups Second i c s runs class = legal_move_law i c.vtype c.vstart runs.setting runs.legal class
 
 is-plain : (order : Order) (o : Operation) (i : VInstr) (c : Cfg) (x : ℕ) (s : Slices) → Runs i c s → class_of i.op ≡ class_in order
     → IsPlain (shape_in order i c x o) (operands_in order i) (value_in order i c o) s.columns
 unfolding shape_in elements_in elements_at
 is-plain Straight o i c x s runs class =
-    let facts = plain_law i c.vtype c.vstart runs.setting runs.legal class in
+    let facts = legal_plain_law i c.vtype c.vstart runs.setting runs.legal class in
     let groups = facts.0 in
     record {
       framed = framed Straight o i c x groups s.columns runs.long;
@@ -153,7 +153,7 @@ is-plain Straight o i c x s runs class =
       addend = (groups.room, inl refl);
     }
 is-plain Reversed o i c x s runs class =
-    let facts = plain_law i c.vtype c.vstart runs.setting runs.legal class in
+    let facts = legal_plain_law i c.vtype c.vstart runs.setting runs.legal class in
     let groups = facts.0 in
     record {
       framed = framed Reversed o i c x groups s.columns runs.long;
@@ -163,7 +163,7 @@ is-plain Reversed o i c x s runs class =
       addend = (groups.room, inl refl);
     }
 is-plain Second o i c x s runs class =
-    let groups = move_law i c.vtype c.vstart runs.setting runs.legal class in
+    let groups = legal_move_law i c.vtype c.vstart runs.setting runs.legal class in
     record {
       framed = framed Second o i c x groups s.columns runs.long;
       result = λ v e m. refl;
@@ -183,7 +183,7 @@ values Straight o i c x v e ignores least small =
     let at = row_in Straight w in
     let d = meaning.operand_d i c x at o v e in
     let m = meaning.mask_operand i c x at o v e in
-    let second = operand_of (operand_in i.form i.vs1) (c.vlen / 8) w (scalar_in i.form o.signed_immediate w i.vs1 x) v e in
+    let second = operand_of (source_in_vs1 i.form i.vs1) (c.vlen / 8) w (scalar_in i.form o.signed_immediate w i.vs1 x) v e in
     ap (λ (z : ℕ). o.value w c.vxrm z second d m) (sym (extended-same o.signed_a w (element_of (c.vlen / 8) v i.vs2 w e)))
     ∙ ap (λ (z : ℕ). o.value w c.vxrm (meaning.operand_a i c x at o v e) z d m) (second-value i c x at o i.form v e refl refl least small)
 values Reversed o i c x v e ignores least small =
@@ -191,7 +191,7 @@ values Reversed o i c x v e ignores least small =
     let at = row_in Reversed w in
     let d = meaning.operand_d i c x at o v e in
     let m = meaning.mask_operand i c x at o v e in
-    let second = operand_of (operand_in i.form i.vs1) (c.vlen / 8) w (scalar_in i.form o.signed_immediate w i.vs1 x) v e in
+    let second = operand_of (source_in_vs1 i.form i.vs1) (c.vlen / 8) w (scalar_in i.form o.signed_immediate w i.vs1 x) v e in
     ap (λ (z : ℕ). o.value w c.vxrm z second d m) (sym (extended-same o.signed_a w (element_of (c.vlen / 8) v i.vs2 w e)))
     ∙ ap (λ (z : ℕ). o.value w c.vxrm (meaning.operand_a i c x at o v e) z d m) (second-value i c x at o i.form v e refl refl least small)
 values Second o i c x v e ignores least small =
@@ -199,7 +199,7 @@ values Second o i c x v e ignores least small =
     let at = row_in Second w in
     let d = meaning.operand_d i c x at o v e in
     let m = meaning.mask_operand i c x at o v e in
-    let second = operand_of (operand_in i.form i.vs1) (c.vlen / 8) w (scalar_in i.form o.signed_immediate w i.vs1 x) v e in
+    let second = operand_of (source_in_vs1 i.form i.vs1) (c.vlen / 8) w (scalar_in i.form o.signed_immediate w i.vs1 x) v e in
     ignores refl w c.vxrm (element_of (c.vlen / 8) v i.vd w e) (meaning.operand_a i c x at o v e) second d m
     ∙ ap (λ (z : ℕ). o.value w c.vxrm (meaning.operand_a i c x at o v e) z d m) (second-value i c x at o i.form v e refl refl least small)
 

@@ -17,7 +17,7 @@ use Rattle.rvv_meaning.specs.Elementwise.{makes_mask, registers_after}
 use Rattle.rvv_meaning.specs.Operations.{Operation, reads_mask, elements_at, on_elements}
 use Rattle.rvv_meaning.specs.Operations as meaning
 use Rattle.legal_groups.specs.Facts.{group_count, LowestOrApart, MaskGroups}
-use Rattle.legal_groups.proofs.Groups.{compare_law, vlmax-held}
+use Rattle.legal_groups.proofs.Groups.{legal_compare_law, vlmax-held}
 use Rattle.frame_laws.specs.Shapes.{Shape, Bounded, usual_bounds}
 use Rattle.frame_laws.specs.Bytes.{mask_after}
 use Rattle.frame_laws.proofs.Ends.{usual_bounds_law}
@@ -29,7 +29,7 @@ use Rattle.frame_laws.specs.Classes.Operands.{operand_of}
 use Rattle.frame_laws.specs.Classes.Compared.{AllTell, mask_value, IsMaskReadable, IsCompared}
 use Rattle.frame_laws.proofs.Classes.Operands.{whole-register}
 use Rattle.frame_laws.proofs.Classes.Compared.{compared_bytes_law}
-use Rattle.frame_meaning.specs.Shapes.{operand_in, has_scalar, scalar_in, scalar_of}
+use Rattle.frame_meaning.specs.Shapes.{source_in_vs1, has_scalar, scalar_in, scalar_of}
 use Rattle.frame_meaning.specs.Laws.{Runs}
 use Rattle.frame_meaning.specs.Costs.{AllMeasured}
 use Rattle.frame_meaning.specs.Masks.{compare_operands, compare_row, compare_shape, compare_program, truth_in, IsTruth, LeavesMask, CompareMeaningLaw, compare_cost_of, compare_length_of, CompareMeasured, MaskCosts, CompareCostLaw}
@@ -37,7 +37,7 @@ use Rattle.frame_meaning.proofs.Meaning.{mask_meaning_law}
 use Rattle.frame_meaning.proofs.Instructions.{width-of, extended-same, second-value}
 
 -- the second operand can be read while the mask is written
-second-readable : (sh : Shape) (f : Form) (vs1 : ℕ) → (f ≡ V → LowestOrApart sh.registers sh.vd vs1) → sh.splat ≡ has_scalar f → sh.scalar_width ≡ sh.width → IsMaskReadable sh (operand_in f vs1)
+second-readable : (sh : Shape) (f : Form) (vs1 : ℕ) → (f ≡ V → LowestOrApart sh.registers sh.vd vs1) → sh.splat ≡ has_scalar f → sh.scalar_width ≡ sh.width → IsMaskReadable sh (source_in_vs1 f vs1)
 second-readable sh V vs1 beside splat wide = beside refl
 second-readable sh X vs1 beside splat wide = (splat, wide)
 second-readable sh I vs1 beside splat wide = (splat, wide)
@@ -53,7 +53,7 @@ module _ (i : VInstr) (c : Cfg) (x : ℕ) (operation : Operation) where
 
   -- what legality and the configuration say of the instruction
   groups-of : (s : Slices) → Runs i c s → class_of i.op ≡ compare → MaskGroups i c.vtype
-  groups-of s runs class = compare_law i c.vtype c.vstart runs.setting runs.legal class
+  groups-of s runs class = legal_compare_law i c.vtype c.vstart runs.setting runs.legal class
 
   framed : (s : Slices) → Runs i c s → c.vl ≤ vlmax c.vtype c.vlen → class_of i.op ≡ compare → MaskFramed shape s.columns
   unfolding compare_shape elements_at
@@ -104,7 +104,7 @@ module _ (i : VInstr) (c : Cfg) (x : ℕ) (operation : Operation) where
       let d = meaning.operand_d i c x at operation v e in
       let m = meaning.mask_operand i c x at operation v e in
       let first = element_of (c.vlen / 8) v i.vs2 w e in
-      let second = operand_of (operand_in i.form i.vs1) (c.vlen / 8) w (scalar_in i.form operation.signed_immediate w i.vs1 x) v e in
+      let second = operand_of (source_in_vs1 i.form i.vs1) (c.vlen / 8) w (scalar_in i.form operation.signed_immediate w i.vs1 x) v e in
       sym (valued w c.vxrm first second d m)
       ∙ ap (λ (z : ℕ). operation.value w c.vxrm z second d m) (sym (extended-same operation.signed_a w first))
       ∙ ap (λ (z : ℕ). operation.value w c.vxrm (meaning.operand_a i c x at operation v e) z d m) (second-value i c x at operation i.form v e refl refl least small)

@@ -12,14 +12,14 @@ use Rattle.rvv_meaning.specs.Elementwise.{is_ones}
 use Rattle.rvv_meaning.specs.Operations.{Operation, reads_mask}
 use Rattle.legal_groups.specs.Facts.{group_count}
 use Rattle.frame_laws.specs.Costs.{counts_times}
-use Rattle.micro_ir.specs.Measures.{Measured as ListMeasured}
+use Rattle.micro_ir.specs.Measures.{Measured}
 use Rattle.frame_meaning.specs.declared.Order.{Order}
 use Rattle.frame_meaning.specs.Shapes.{has_scalar, class_in, program_in}
 use Rattle.frame_meaning.specs.Laws.{Runs}
 
 -- The lists of the registers cost alike and are equally long, and a chain can run them.
 abbrev pub AllMeasured : (registers : ℕ) → (body : ℕ → List MicroOp) → (each : Counts) → (long : ℕ) → Type 0
-AllMeasured registers body each long = (g : ℕ) → g < registers → ListMeasured each long (body g)
+AllMeasured registers body each long = (g : ℕ) → g < registers → Measured each long (body g)
 
 -- The searches, updates and passes of an instruction whose list for a register makes `each`: those that put its scalar into
 -- a row, and for each register those of its list and of the fill, where agnostic elements become ones.
@@ -34,7 +34,7 @@ unfoldable pub length_of : VInstr → Cfg → (reads : Bool) → (long : ℕ) �
 length_of i c reads long = cond (has_scalar i.form) 4 0 + group_count c.vtype * (1 + cond reads 1 0 + cond (is_ones c.policy) 3 0 + long)
 
 -- the program of an instruction that can run on the slices
-pub record Measured (i : VInstr) (c : Cfg) (s : Slices) (reads : Bool) (each : Counts) (long : ℕ) (ops : List MicroOp) : Type 0 where
+pub record ElementsMeasured (i : VInstr) (c : Cfg) (s : Slices) (reads : Bool) (each : Counts) (long : ℕ) (ops : List MicroOp) : Type 0 where
   pub cost : tally ops ≡ cost_of i c each
   pub count : length ops ≡ length_of i c reads long
   pub range : AllInRange s.columns ops
@@ -44,4 +44,4 @@ abbrev pub ElementsCostLaw : Type 0
 ElementsCostLaw =
     (order : Order) (o : Operation) (i : VInstr) (c : Cfg) (x : ℕ) (body : ℕ → List MicroOp) (s : Slices) (each : Counts) (long : ℕ)
     → Runs i c s → class_of i.op ≡ class_in order → AllMeasured (group_count c.vtype) body each long
-    → Measured i c s (reads_mask i o) each long (program_in order i c x o body)
+    → ElementsMeasured i c s (reads_mask i o) each long (program_in order i c x o body)

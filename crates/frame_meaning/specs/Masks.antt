@@ -19,16 +19,15 @@ use Rattle.legal_groups.specs.Facts.{group_count}
 use Rattle.frame_laws.specs.Shapes.{Shape, usual_bounds}
 use Rattle.frame_laws.specs.Costs.{counts_times}
 use Rattle.frame_laws.specs.Masks.Programs.{mask_program}
-use Rattle.frame_laws.specs.Classes.Operands.{group, operand_in}
+use Rattle.frame_laws.specs.Classes.Operands.{group, operand_number}
 use Rattle.frame_laws.specs.Classes.Compared.{Pair, Truth, AllTell}
-use Rattle.frame_meaning.specs.Shapes as plain
-use Rattle.frame_meaning.specs.Shapes.{shape_of, has_scalar, scalar_of}
+use Rattle.frame_meaning.specs.Shapes.{shape_of, source_in_vs1, has_scalar, scalar_of}
 use Rattle.frame_meaning.specs.Laws.{Runs}
 use Rattle.frame_meaning.specs.Costs.{AllMeasured}
 
 -- the operands of a comparison: the group in vs2, and what its form names in the place of vs1
 abbrev pub compare_operands : VInstr → Pair
-compare_operands i = record { a = group i.vs2; b = plain.operand_in i.form i.vs1 }
+compare_operands i = record { a = group i.vs2; b = source_in_vs1 i.form i.vs1 }
 
 -- their places
 abbrev pub compare_row : (sew : ℕ) → Row
@@ -41,7 +40,7 @@ compare_scalar i c x o = scalar_of i c x o.signed_immediate
 -- the number of an element's result; no comparison reads the mask that it writes over as an element
 abbrev pub compare_result : VInstr → Cfg → (x : ℕ) → Operation → Registers → ℕ → Bool → ℕ
 compare_result i c x o v e m =
-    o.value c.vtype.sew c.vxrm (operand_in (compare_operands i).a c.vlen c.vtype.sew (compare_scalar i c x o) v e) (operand_in (compare_operands i).b c.vlen c.vtype.sew (compare_scalar i c x o) v e) 0
+    o.value c.vtype.sew c.vxrm (operand_number (compare_operands i).a c.vlen c.vtype.sew (compare_scalar i c x o) v e) (operand_number (compare_operands i).b c.vlen c.vtype.sew (compare_scalar i c x o) v e) 0
     (reads_mask i o && m)
 
 -- The shape of an instruction that makes a mask with this operation: that of what it means, but for the width of the elements

@@ -44,10 +44,10 @@ shape_of c i reads splat x scalar_width result = record {
 -- ---- the second operand, which has three forms
 
 -- the operand in the place of vs1: the group that it names, or the scalar's row
-abbrev pub operand_in : Form → (vs1 : ℕ) → Operand
-operand_in V vs1 = group vs1
-operand_in X vs1 = scalar
-operand_in I vs1 = scalar
+abbrev pub source_in_vs1 : Form → (vs1 : ℕ) → Operand
+source_in_vs1 V vs1 = group vs1
+source_in_vs1 X vs1 = scalar
+source_in_vs1 I vs1 = scalar
 
 -- whether the form has a scalar, and which number it is at w bits
 abbrev pub has_scalar : Form → Bool
@@ -79,9 +79,9 @@ class_in Second = move
 
 -- the operands as the list takes them; a third one is the destination as it was
 abbrev pub operands_in : Order → VInstr → Operands
-operands_in Straight i = record { a = group i.vs2; b = operand_in i.form i.vs1; addend = group i.vd }
-operands_in Reversed i = record { a = operand_in i.form i.vs1; b = group i.vs2; addend = group i.vd }
-operands_in Second i = record { a = group i.vd; b = operand_in i.form i.vs1; addend = group i.vd }
+operands_in Straight i = record { a = group i.vs2; b = source_in_vs1 i.form i.vs1; addend = group i.vd }
+operands_in Reversed i = record { a = source_in_vs1 i.form i.vs1; b = group i.vs2; addend = group i.vd }
+operands_in Second i = record { a = group i.vd; b = source_in_vs1 i.form i.vs1; addend = group i.vd }
 
 -- the value of an operation, from the list's operands and the mask bit
 abbrev pub value_in : Order → VInstr → Cfg → Operation → Value

@@ -6,10 +6,10 @@ use Rattle.rvv_decode.specs.declared.instruction.Form.TheVariants.{V}
 use Rattle.vtype_cfg.specs.declared.vtype.Vtype.{Vtype}
 use Rattle.vtype_cfg.specs.Settings.{is_vill_or_supported, vlmax}
 use Rattle.vtype_cfg.specs.Classes.{Class, plain, move, compare, widening, narrowing, extension_by_four, group, row_of}
-use Rattle.legal_groups.specs.Facts.{IsElementWidth, registers_for, Group, ReadBeside, ReadForMask, GroupWritten, Follows, group_count, SameOrApart, SewGroups, LowestOrApart, PlainLaw, MoveLaw, CompareLaw}
+use Rattle.legal_groups.specs.Facts.{IsElementWidth, registers_for, Group, ReadBeside, ReadForMask, GroupWritten, Follows, group_count, SameOrApart, SewGroups, LowestOrApart, LegalPlainLaw, LegalMoveLaw, LegalCompareLaw}
 use Rattle.legal_groups.proofs.Widths.{at_width, width-least, sew-width, vlmax-held_at}
 use Rattle.legal_groups.proofs.Overlaps.{same_or_apart}
-use Rattle.legal_groups.proofs.Laws.{group_law, mask_law}
+use Rattle.legal_groups.proofs.Laws.{legal_group_law, legal_mask_law}
 
 -- the registers of a group of elements of SEW bits
 count-is : (vt : Vtype) → IsElementWidth vt.sew → registers_for vt vt.sew ≡ group_count vt
@@ -43,14 +43,14 @@ sew-groups class i vt at f =
       vs1 = λ form. beside vt i.vd i.vs1 f.sew f.place (f.sources.vs1 vt.sew form at).place;
     }
 
-pub move_law : MoveLaw
+pub legal_move_law : LegalMoveLaw
 unfolding row_of
-move_law i vt vstart setting legal class = sew-groups move i vt refl (group_law move i vt vstart setting legal class vt.sew refl)
+legal_move_law i vt vstart setting legal class = sew-groups move i vt refl (legal_group_law move i vt vstart setting legal class vt.sew refl)
 
-pub plain_law : PlainLaw
+pub legal_plain_law : LegalPlainLaw
 unfolding row_of
-plain_law i vt vstart setting legal class =
-    let f = group_law plain i vt vstart setting legal class vt.sew refl in
+legal_plain_law i vt vstart setting legal class =
+    let f = legal_group_law plain i vt vstart setting legal class vt.sew refl in
     (sew-groups plain i vt refl f, beside vt i.vd i.vs2 f.sew f.place (f.sources.vs2 vt.sew refl).place)
 
 lowest_or_apart : (vt : Vtype) (vd r : ℕ) → IsElementWidth vt.sew → ReadForMask vt vd vt.sew r → LowestOrApart (group_count vt) vd r
@@ -61,10 +61,10 @@ lowest_or_apart vt vd r width read =
       (let away = read.lowest (vd - r) in grind arith),
     )
 
-pub compare_law : CompareLaw
+pub legal_compare_law : LegalCompareLaw
 unfolding row_of
-compare_law i vt vstart setting legal class =
-    let f = mask_law compare i vt vstart setting legal class refl in
+legal_compare_law i vt vstart setting legal class =
+    let f = legal_mask_law compare i vt vstart setting legal class refl in
     let two = f.sources.vs2 vt.sew refl in
     let n : registers_for vt vt.sew ≡ group_count vt = count-is vt f.sew in
     let few = two.place.few in
@@ -87,26 +87,26 @@ MadeFrom class i vt d two one = GroupWritten class i vt d × ReadBeside vt d i.v
 pub widening-groups : Follows widening (λ i vt. MadeFrom widening i vt (2 * vt.sew) vt.sew vt.sew)
 unfolding row_of
 widening-groups i vt vstart setting legal class =
-    let f = group_law widening i vt vstart setting legal class (2 * vt.sew) refl in
+    let f = legal_group_law widening i vt vstart setting legal class (2 * vt.sew) refl in
     (f, f.sources.vs2 vt.sew refl, λ form. f.sources.vs1 vt.sew form refl)
 
 pub narrowing-groups : Follows narrowing (λ i vt. MadeFrom narrowing i vt vt.sew (2 * vt.sew) vt.sew)
 unfolding row_of
 narrowing-groups i vt vstart setting legal class =
-    let f = group_law narrowing i vt vstart setting legal class vt.sew refl in
+    let f = legal_group_law narrowing i vt vstart setting legal class vt.sew refl in
     (f, f.sources.vs2 (2 * vt.sew) refl, λ form. f.sources.vs1 vt.sew form refl)
 
 pub plain-groups : Follows plain (λ i vt. MadeFrom plain i vt vt.sew vt.sew vt.sew)
 unfolding row_of
 plain-groups i vt vstart setting legal class =
-    let f = group_law plain i vt vstart setting legal class vt.sew refl in
+    let f = legal_group_law plain i vt vstart setting legal class vt.sew refl in
     (f, f.sources.vs2 vt.sew refl, λ form. f.sources.vs1 vt.sew form refl)
 
 -- of an extension by four SEW is 32
 pub extension-groups : Follows extension_by_four (λ i vt. GroupWritten extension_by_four i vt vt.sew × ReadBeside vt vt.sew i.vd (vt.sew / 4) i.vs2 × (vt.sew ≡ 32))
 unfolding row_of
 extension-groups i vt vstart setting legal class =
-    let f = group_law extension_by_four i vt vstart setting legal class vt.sew refl in
+    let f = legal_group_law extension_by_four i vt vstart setting legal class vt.sew refl in
     let source = f.sources.vs2 (vt.sew / 4) refl in
     let least : 8 ≤ vt.sew / 4 = width-least (vt.sew / 4) source.width in
     (f, source, at_width (λ (w : ℕ). 8 ≤ w / 4 → w ≡ 32) (λ l. absurd (omega arith)) (λ l. absurd (omega arith)) (λ l. refl) vt.sew f.sew least)

@@ -10,7 +10,7 @@ use Rattle.vtype_cfg.specs.Settings.{is_supported, is_vill_or_supported}
 use Rattle.vtype_cfg.specs.Groups.{Operand, mask_at, groups_at, registers}
 use Rattle.vtype_cfg.specs.Classes.{Class, plain, Place, group, row_of, class_of, operand_at, in_form, is_mask_place, destination_of, sources_of, needs_no_setting, may_write_mask, overlap_of}
 use Rattle.vtype_cfg.specs.Legality.{has_setting, has_legal_eew, has_legal_emul, is_aligned, fits_registers, is_placed, may_start_at, if_there, are_placed, overlaps_legally, spares_mask, writes_legally, obeys_rules, is_legal}
-use Rattle.legal_groups.specs.Facts.{IsElementWidth, registers_for, Group, Sources, GroupLaw, MaskLaw}
+use Rattle.legal_groups.specs.Facts.{IsElementWidth, registers_for, Group, Sources, LegalGroupLaw, LegalMaskLaw}
 use Rattle.legal_groups.proofs.Widths.{at_width, is_element_width, element-width, in_force, sew-width}
 use Rattle.legal_groups.proofs.Overlaps.{is_limited, read-beside, read-for_mask}
 
@@ -182,8 +182,8 @@ ruled class i vt setting o written rules =
       };
     }
 
-pub group_law : GroupLaw
-group_law class i vt vstart setting legal is d at =
+pub legal_group_law : LegalGroupLaw
+legal_group_law class i vt vstart setting legal is d at =
     let o = groups_at vt 1 d i.vd in
     let r = ruled class i vt setting o (rw at refl) (obeyed class i vt vstart o legal is (rw at refl)) in
     let p = lies vt d i.vd (rw at at r.vd) r.place in
@@ -199,8 +199,8 @@ group_law class i vt vstart setting legal is d at =
       };
     }
 
-pub mask_law : MaskLaw
-mask_law class i vt vstart setting legal is at =
+pub legal_mask_law : LegalMaskLaw
+legal_mask_law class i vt vstart setting legal is at =
     let o = mask_at i.vd in
     let r = ruled class i vt setting o (rw at refl) (obeyed class i vt vstart o legal is (rw at refl)) in
     record {

@@ -73,12 +73,12 @@ Follows class fact =
     (i : VInstr) (vt : Vtype) (vstart : ℕ) → IsTrue (is_vill_or_supported vt) → is_legal i vt vstart ≡ true → class_of i.op ≡ class → fact i vt
 
 -- every class whose destination is a group
-abbrev pub GroupLaw : Type 0
-GroupLaw = (class : Class) → Follows class (λ i vt. (d : ℕ) → (row_of class vt.sew i).vd ≡ group d → GroupWritten class i vt d)
+abbrev pub LegalGroupLaw : Type 0
+LegalGroupLaw = (class : Class) → Follows class (λ i vt. (d : ℕ) → (row_of class vt.sew i).vd ≡ group d → GroupWritten class i vt d)
 
 -- every class whose destination is a mask
-abbrev pub MaskLaw : Type 0
-MaskLaw = (class : Class) → Follows class (λ i vt. (row_of class vt.sew i).vd ≡ mask → MaskWritten class i vt)
+abbrev pub LegalMaskLaw : Type 0
+LegalMaskLaw = (class : Class) → Follows class (λ i vt. (row_of class vt.sew i).vd ≡ mask → MaskWritten class i vt)
 
 -- ---- classes whose groups have elements of SEW bits
 
@@ -115,12 +115,12 @@ pub record MaskGroups (i : VInstr) (vt : Vtype) : Type 0 where
   pub vs1 : i.form ≡ V → LowestOrApart (group_count vt) i.vd i.vs1
 
 -- a plain instruction has a third such group in vs2
-abbrev pub PlainLaw : Type 0
-PlainLaw = Follows plain (λ i vt. SewGroups i vt × SameOrApart (group_count vt) i.vd i.vs2)
+abbrev pub LegalPlainLaw : Type 0
+LegalPlainLaw = Follows plain (λ i vt. SewGroups i vt × SameOrApart (group_count vt) i.vd i.vs2)
 
-abbrev pub MoveLaw : Type 0
-MoveLaw = Follows move SewGroups
+abbrev pub LegalMoveLaw : Type 0
+LegalMoveLaw = Follows move SewGroups
 
 -- A comparison has two such groups and a mask as its destination, as a carry out has.
-abbrev pub CompareLaw : Type 0
-CompareLaw = Follows compare MaskGroups
+abbrev pub LegalCompareLaw : Type 0
+LegalCompareLaw = Follows compare MaskGroups

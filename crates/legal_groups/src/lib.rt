@@ -3,31 +3,31 @@
 //! function here is a law.
 #![tactic(auto)]
 
-ghost use Rattle.legal_groups.specs.Facts.{GroupLaw, MaskLaw, PlainLaw, MoveLaw, CompareLaw};
+ghost use Rattle.legal_groups.specs.Facts.{LegalGroupLaw, LegalMaskLaw, LegalPlainLaw, LegalMoveLaw, LegalCompareLaw};
 
 /// The groups of a legal instruction that writes a group, whatever the widths of its elements, lie
 /// within the registers, and written in their order none is overwritten before it has been read.
-pub fn group_law()
-    ensures law { GroupLaw }
+pub fn legal_group_law()
+    ensures law { LegalGroupLaw }
 {}
 
 /// The same of a legal instruction that writes a mask, where only a group's lowest register may be
 /// the mask.
-pub fn mask_law()
-    ensures law { MaskLaw }
+pub fn legal_mask_law()
+    ensures law { LegalMaskLaw }
 {}
 
 /// The groups of a legal plain instruction are the same or apart, and the mask is spared.
-pub fn plain_law()
-    ensures law { PlainLaw }
+pub fn legal_plain_law()
+    ensures law { LegalPlainLaw }
 {}
 
 /// The same of a legal move.
-pub fn move_law()
-    ensures law { MoveLaw }
+pub fn legal_move_law()
+    ensures law { LegalMoveLaw }
 {}
 
 /// The mask that a legal comparison writes is the lowest register of a source or apart from it.
-pub fn compare_law()
-    ensures law { CompareLaw }
+pub fn legal_compare_law()
+    ensures law { LegalCompareLaw }
 {}

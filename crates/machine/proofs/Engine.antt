@@ -12,7 +12,7 @@ use Rattle.vtype_cfg.specs.declared.configuration.Cfg.{Cfg}
 use Rattle.rvv_meaning.specs.Elementwise.{registers_after, clips as clips_elements}
 use Rattle.rvv_meaning.specs.Operations.{Operation, operation_for, on_elements}
 use Rattle.rvv_meaning.specs.Vectors.{elements}
-use Rattle.vec_exec.specs.Programs.{Leaves, Realises}
+use Rattle.vec_exec.specs.Programs.{Leaves, RealisesInstruction}
 use Rattle.machine.specs.Moments.{slices_by}
 
 state-zero : (v : ChainValue) → state_of v 0 ≡ slices_of v
@@ -48,9 +48,9 @@ unfolding registers_of
 registers-same s num = refl
 
 -- what a list leaves that realises an instruction on elements
-module _ (old : ChainValue) (i : VInstr) (cfg : Cfg) (x : ℕ) (o : Operation) (ops : List MicroOp) (is : operation_for i.op ≡ Some o) (realises : Realises i cfg x ops) (long : cfg.vlen ≡ 32 * old.columns) where
+module _ (old : ChainValue) (i : VInstr) (cfg : Cfg) (x : ℕ) (o : Operation) (ops : List MicroOp) (is : operation_for i.op ≡ Some o) (realises : RealisesInstruction i cfg x ops) (long : cfg.vlen ≡ 32 * old.columns) where
   both : Leaves cfg (registers_of (slices_of old)) (elements (on_elements i cfg x o)) (replay ops (slices_of old)) (clips ops (slices_of old))
-  unfolding Realises
+  unfolding RealisesInstruction
   both = rw is at (realises (slices_of old) (control-zero old) (columns-same old cfg.vlen long))
 
   pub elements-registers : registers_of (slices_by (Some ops) (slices_of old)) ≡ registers_after cfg (on_elements i cfg x o) (registers_of (slices_of old))

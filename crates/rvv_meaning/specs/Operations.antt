@@ -71,13 +71,13 @@ module _ (i : VInstr) (c : Cfg) (scalar : ℕ) (at : Row) (o : Operation) where
   operand_a v e = extended o.signed_a (width_at c.vtype at.vs2) value_width (element_of (size_of c) v i.vs2 (width_at c.vtype at.vs2) e)
 
   -- what the place of vs1 names in each form: an element, the scalar cut to the width of one, or the immediate
-  abbrev pub operand_in : Form → List (List ℕ) → ℕ → ℕ
-  operand_in V v e = extended o.signed_b (width_at c.vtype at.vs1) value_width (element_of (size_of c) v i.vs1 (width_at c.vtype at.vs1) e)
-  operand_in X v e = extended o.signed_b (width_at c.vtype at.vs1) value_width (low (width_at c.vtype at.vs1) scalar)
-  operand_in I v e = extended o.signed_immediate immediate_bits value_width i.vs1
+  abbrev pub second_operand : Form → List (List ℕ) → ℕ → ℕ
+  second_operand V v e = extended o.signed_b (width_at c.vtype at.vs1) value_width (element_of (size_of c) v i.vs1 (width_at c.vtype at.vs1) e)
+  second_operand X v e = extended o.signed_b (width_at c.vtype at.vs1) value_width (low (width_at c.vtype at.vs1) scalar)
+  second_operand I v e = extended o.signed_immediate immediate_bits value_width i.vs1
 
   abbrev pub operand_b : List (List ℕ) → ℕ → ℕ
-  operand_b v e = operand_in i.form v e
+  operand_b v e = second_operand i.form v e
 
   -- the element of the destination as it was, where it is an operand
   abbrev pub operand_d : List (List ℕ) → ℕ → ℕ

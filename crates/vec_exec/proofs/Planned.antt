@@ -5,8 +5,8 @@ use Rattle.std.proofs.lemmas.Bool.{and_parts, leb-true, cases_Bool}
 use Rattle.bit_rows.specs.Slices.{Slices, blank}
 use Rattle.cam_chain.specs.Views.{registers_of}
 use Rattle.micro_ir.specs.declared.op.MicroOp.{MicroOp}
-use Rattle.micro_ir.specs.Kinds.{Realises as RealisesList, Tells}
-use Rattle.micro_ir.specs.Measures.{Measured as ListMeasured}
+use Rattle.micro_ir.specs.Kinds.{Realises, Tells}
+use Rattle.micro_ir.specs.Measures.{Measured}
 use Rattle.micro_ir.specs.Replay.{replay, tally, clips, AllInRange}
 use Rattle.micro_ir.specs.WorkRows.{IsOperandRow}
 use Rattle.micro_ir.proofs.Lists.{clips-none}
@@ -20,7 +20,7 @@ use Rattle.vtype_cfg.specs.Classes.{Class, class_of, compare}
 use Rattle.vtype_cfg.specs.Legality.{is_legal}
 use Rattle.vtype_cfg.proofs.Lengths.{vlen_from, vlen_words}
 use Rattle.legal_groups.specs.Facts.{IsElementWidth, group_count, SameOrApart, SewGroups, MaskGroups}
-use Rattle.legal_groups.proofs.Groups.{plain_law, move_law, compare_law}
+use Rattle.legal_groups.proofs.Groups.{legal_plain_law, legal_move_law, legal_compare_law}
 use Rattle.rvv_meaning.specs.Elementwise.{Elementwise, registers_after, clips_below, clips as clips_elements}
 use Rattle.rvv_meaning.specs.Operations.{Operation, operation_for, on_elements, elements_at, reads_mask}
 use Rattle.rvv_meaning.specs.Vectors.{left_of}
@@ -32,16 +32,16 @@ use Rattle.frame_laws.specs.Shapes.{Shape, usual_bounds}
 use Rattle.frame_laws.specs.Masks.Programs as masks
 use Rattle.frame_meaning.specs.declared.Order.{Order}
 use Rattle.frame_meaning.specs.declared.Order.TheVariants.{Straight, Reversed, Second}
-use Rattle.frame_meaning.specs.Shapes.{operand_in, class_in, operands_in, value_in, elements_in, shape_in, program_in}
+use Rattle.frame_meaning.specs.Shapes.{source_in_vs1, class_in, operands_in, value_in, elements_in, shape_in, program_in}
 use Rattle.frame_meaning.specs.Laws.{Runs, IgnoresFirst}
-use Rattle.frame_meaning.specs.Costs.{Measured}
+use Rattle.frame_meaning.specs.Costs.{ElementsMeasured}
 use Rattle.frame_meaning.specs.Masks.{IsTruth, truth_in, compare_operands, compare_shape, compare_program, CompareMeasured}
 use Rattle.frame_meaning.proofs.Instructions.{elements_meaning_law, elements_cost_law}
 use Rattle.frame_meaning.proofs.Masks.{compare_meaning_law, compare_cost_law}
 use Rattle.vec_exec.specs.declared.recipes.Listed.{Listed}
 use Rattle.vec_exec.specs.declared.recipes.Recipe.{Recipe}
 use Rattle.vec_exec.specs.Recipes.{recipe_for, makes_bits, takes_row, value_of, truth_of, list_of, counts_of, length_of, Computes}
-use Rattle.vec_exec.specs.Programs.{reads, masked, list_for, kind_list, truth_list, element_program, mask_program, register_list, registers_list, mask_register_list, mask_registers_list, mask_fill_list, scalar_list, IsPlaced, IsMaskPlaced, IsMade, IsMaskMade, Realises, prog, program_by, cost, cost_by}
+use Rattle.vec_exec.specs.Programs.{reads, masked, list_for, kind_list, truth_list, element_program, mask_program, register_list, registers_list, mask_register_list, mask_registers_list, mask_fill_list, scalar_list, IsPlaced, IsMaskPlaced, IsMade, IsMaskMade, RealisesInstruction, prog, program_by, cost, cost_by}
 use Rattle.vec_exec.proofs.Fits.{Traits, Ignores, value_by, Means, Unmasked, Fits, never}
 
 -- ---- what a valid configuration has
@@ -77,7 +77,7 @@ groups-in Straight i c f = f.0
 groups-in Reversed i c f = f.0
 groups-in Second i c f = f
 
-second-row : (form : Form) (vs1 n g : ℕ) → g < n → (form ≡ V → vs1 + n ≤ 32) → IsOperandRow (row_of (operand_in form vs1) g)
+second-row : (form : Form) (vs1 n g : ℕ) → g < n → (form ≡ V → vs1 + n ≤ 32) → IsOperandRow (row_of (source_in_vs1 form vs1) g)
 second-row V vs1 n g inside room = let r : vs1 + n ≤ 32 = room refl in inl (omega arith)
 second-row X vs1 n g inside room = inr (inr (inl refl))
 second-row I vs1 n g inside room = inr (inr (inl refl))
@@ -117,7 +117,7 @@ ignoring _ o h is = cc
 lists-compute : (order : Order) (o : Operation) (i : VInstr) (c : Cfg) (list : Listed) (g : ℕ) → makes_bits list ≡ false → takes_row list ≡ reads_mask i o
     → ((a b d : ℕ) (m : Bool) → value_of list c.vtype.sew a b d m ≡ value_by order o c.vtype.sew c.vxrm a b d (reads_mask i o && m))
     → Computes list c.vtype.sew (row_of (operands_in order i).a g) (row_of (operands_in order i).b g) (i.vd + g) (i.vd + g)
-    → RealisesList c.vtype.sew (i.vd + g) (reads_mask i o)
+    → Realises c.vtype.sew (i.vd + g) (reads_mask i o)
     (λ n m. value_in order i c o (n (row_of (operands_in order i).a g)) (n (row_of (operands_in order i).b g)) (n (row_of (operands_in order i).addend g)) m)
     (list_of list c.vtype.sew (row_of (operands_in order i).a g) (row_of (operands_in order i).b g) (i.vd + g) (i.vd + g))
 unfolding Computes
@@ -261,15 +261,15 @@ module _ (r : Recipe) (o : Operation) (i : VInstr) (c : Cfg) (x : ℕ) (f : Fits
 
 -- what a program is for, what it costs, and that a chain can run it
 pub record Fine (r : Recipe) (i : VInstr) (c : Cfg) (x : ℕ) : Type 0 where
-  pub realises : Realises i c x (program_by r i c x)
+  pub realises : RealisesInstruction i c x (program_by r i c x)
   pub cost : tally (program_by r i c x) ≡ cost_by r i c
   pub range : AllInRange (c.vlen / 32) (program_by r i c x)
 
 module _ (r : Recipe) (o : Operation) (i : VInstr) (c : Cfg) (x : ℕ) (f : Fits i.op r o) (valid : IsTrue (is_valid c)) (legal : is_legal i c.vtype c.vstart ≡ true) where
   facts-in : (order : Order) → class_of i.op ≡ class_in order → Facts order i c
-  facts-in Straight class = plain_law i c.vtype c.vstart (valid-setting c valid) legal class
-  facts-in Reversed class = plain_law i c.vtype c.vstart (valid-setting c valid) legal class
-  facts-in Second class = move_law i c.vtype c.vstart (valid-setting c valid) legal class
+  facts-in Straight class = legal_plain_law i c.vtype c.vstart (valid-setting c valid) legal class
+  facts-in Reversed class = legal_plain_law i c.vtype c.vstart (valid-setting c valid) legal class
+  facts-in Second class = legal_move_law i c.vtype c.vstart (valid-setting c valid) legal class
 
   least : 32 ≤ c.vlen
   least = vlen_from c.vlen (valid-length c valid)
@@ -296,7 +296,7 @@ module _ (r : Recipe) (o : Operation) (i : VInstr) (c : Cfg) (x : ℕ) (f : Fits
 
   pub mask-plans : makes_bits r.masked ≡ true → MaskPlans i c
   mask-plans bits =
-      let groups : MaskGroups i c.vtype = compare_law i c.vtype c.vstart (valid-setting c valid) legal (mask-class r o i c x f bits) in
+      let groups : MaskGroups i c.vtype = legal_compare_law i c.vtype c.vstart (valid-setting c valid) legal (mask-class r o i c x f bits) in
       record {
         sew = groups.sew;
         few = groups.few;
@@ -324,7 +324,7 @@ module _ (r : Recipe) (o : Operation) (i : VInstr) (c : Cfg) (x : ℕ) (f : Fits
       (elements_meaning_law r.order o i c x (kind_list r i c) s (ignoring r.order o f.ignores) (runs s long small) (class r o i c x f numbers) (computed r o i c x f numbers made))
 
   pub elements-measured : (numbers : makes_bits r.masked ≡ false) → ((g : ℕ) → g < group_count c.vtype → IsMade r i c g) → i.vs1 < 32
-      → Measured i c (blank (c.vlen / 32)) (reads_mask i o) (counts_of (list_for r i) c.vtype.sew) (length_of (list_for r i) c.vtype.sew) (element_program r i c x)
+      → ElementsMeasured i c (blank (c.vlen / 32)) (reads_mask i o) (counts_of (list_for r i) c.vtype.sew) (length_of (list_for r i) c.vtype.sew) (element_program r i c x)
   elements-measured numbers made small =
       rw (elements-list r o i c x f numbers wide)
       (elements_cost_law r.order o i c x (kind_list r i c) (blank (c.vlen / 32)) _ _ (runs (blank (c.vlen / 32)) whole small) (class r o i c x f numbers) (λ g inside. (made g inside).cost))
@@ -347,8 +347,8 @@ module _ (r : Recipe) (o : Operation) (i : VInstr) (c : Cfg) (x : ℕ) (f : Fits
 
   -- what a list leaves that leaves the registers of the meaning
   realised : (ops : List MicroOp) → operation_for i.op ≡ Some o
-      → ((s : Slices) → c.vlen ≡ 32 * s.columns → registers_of (replay ops s) ≡ registers_after c (on_elements i c x o) (registers_of s)) → Realises i c x ops
-  unfolding Realises
+      → ((s : Slices) → c.vlen ≡ 32 * s.columns → registers_of (replay ops s) ≡ registers_after c (on_elements i c x o) (registers_of s)) → RealisesInstruction i c x ops
+  unfolding RealisesInstruction
   realised ops is all s cleared long =
       rw is (all s long, clips-none ops s ∙ sym (unclipped r o i c x f (registers_of s)))
 

@@ -199,8 +199,8 @@ LeavesMeaning c v (Some left) after clipped = Leaves c v left after clipped
 
 -- The list realises the instruction: from any slices whose control number is 0, its replay leaves what the instruction means
 -- for the registers before.
-unfoldable pub Realises : VInstr → Cfg → (scalar : ℕ) → List MicroOp → Type 0
-Realises i c x ops =
+unfoldable pub RealisesInstruction : VInstr → Cfg → (scalar : ℕ) → List MicroOp → Type 0
+RealisesInstruction i c x ops =
     (s : Slices) → s.num ≡ 0 → c.vlen ≡ 32 * s.columns → LeavesMeaning c (registers_of s) (left_of i c x (registers_of s)) (replay ops s) (clips ops s)
 
 -- What the list of register g computes, from the rows of its operands, and what it costs.

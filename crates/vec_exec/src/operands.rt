@@ -3,7 +3,7 @@ ghost use Rattle.std.specs.Prelude.{◌≡◌, ◌⊎◌, ◌+◌, ◌<◌};
 ghost use Rattle.bit_laws.specs.Signed.{extended};
 ghost use Rattle.frame_laws.specs.Classes.Operands.{row_of};
 ghost use Rattle.frame_meaning.specs.Masks.{compare_operands};
-ghost use Rattle.frame_meaning.specs.Shapes.{operand_in, operands_in};
+ghost use Rattle.frame_meaning.specs.Shapes.{source_in_vs1, operands_in};
 ghost use Rattle.micro_ir.specs.WorkRows.{IsOperandRow};
 ghost use Rattle.rvv_meaning.specs.Operations.{immediate_bits};
 ghost use Rattle.vec_exec.specs.Programs.{IsPlaced, IsMaskPlaced};
@@ -37,8 +37,8 @@ pub(crate) fn immediate(signed: bool, width: u8, bits: u8) -> u32
 
 // The row of the operand in the place of vs1 for a register of the group.
 fn second_row(i: &VInstr, register: u8) -> u8
-    requires { IsOperandRow (row_of (operand_in i.now.form i.now.vs1) register) }
-    ensures { result ≡ row_of (operand_in i.now.form i.now.vs1) register }
+    requires { IsOperandRow (row_of (source_in_vs1 i.now.form i.now.vs1) register) }
+    ensures { result ≡ row_of (source_in_vs1 i.now.form i.now.vs1) register }
 {
     match i.form {
         Form::V => i.vs1 + register,

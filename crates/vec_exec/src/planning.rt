@@ -8,7 +8,7 @@ ghost use Rattle.legal_groups.specs.Facts.{group_count, IsElementWidth};
 ghost use Rattle.rvv_meaning.specs.Vectors.{is_built, is_on_elements};
 ghost use Rattle.frame_meaning.specs.Shapes.{has_scalar};
 ghost use Rattle.vec_exec.specs.Recipes.{recipe_for};
-ghost use Rattle.vec_exec.specs.Programs.{prog, program_by, is_engine, Realises, cost, cost_by, scalar_list};
+ghost use Rattle.vec_exec.specs.Programs.{prog, program_by, is_engine, RealisesInstruction, cost, cost_by, scalar_list};
 
 use crate::operands::{at_rows, immediate};
 use crate::recipes::{Recipe, makes_bits, recipe_of};
@@ -86,7 +86,7 @@ fn emit_program_at<W: Width>(recipe: Recipe, i: &VInstr, cfg: &Cfg, scalar: u32,
     requires empty { buf.old.ops ≡ [] }
     requires room { buf.old.spare ≡ 262144 }
     ensures program { buf.new.ops ≡ program_by recipe i.now cfg.now scalar }
-    ensures realises { Realises i.now cfg.now scalar buf.new.ops }
+    ensures realises { RealisesInstruction i.now cfg.now scalar buf.new.ops }
     ensures cost { tally buf.new.ops ≡ cost_by recipe i.now cfg.now }
     ensures range { AllInRange (cfg.now.vlen / 32) buf.new.ops }
     ensures spare { buf.new.spare + length buf.new.ops ≡ buf.old.spare }
@@ -110,7 +110,7 @@ fn emit_program(recipe: Recipe, i: &VInstr, cfg: &Cfg, scalar: u32, buf: &mut Mi
     requires empty { buf.old.ops ≡ [] }
     requires room { buf.old.spare ≡ 262144 }
     ensures program { buf.new.ops ≡ program_by recipe i.now cfg.now scalar }
-    ensures realises { Realises i.now cfg.now scalar buf.new.ops }
+    ensures realises { RealisesInstruction i.now cfg.now scalar buf.new.ops }
     ensures cost { tally buf.new.ops ≡ cost_by recipe i.now cfg.now }
     ensures range { AllInRange (cfg.now.vlen / 32) buf.new.ops }
     ensures spare { buf.new.spare + length buf.new.ops ≡ buf.old.spare }
@@ -137,7 +137,7 @@ pub fn plan(i: &VInstr, cfg: &Cfg, scalar: u32, buf: &mut MicroBuf)
     requires empty { buf.old.ops ≡ [] }
     requires room { buf.old.spare ≡ 262144 }
     ensures program { buf.new.ops ≡ prog i.now cfg.now scalar }
-    ensures realises { Realises i.now cfg.now scalar buf.new.ops }
+    ensures realises { RealisesInstruction i.now cfg.now scalar buf.new.ops }
     ensures cost { tally buf.new.ops ≡ cost i.now cfg.now }
     ensures range { AllInRange (cfg.now.vlen / 32) buf.new.ops }
     ensures searches { (tally buf.new.ops).searches ≤ 262144 }

@@ -16,7 +16,7 @@ use Rattle.frame_laws.specs.Bytes.{size_of}
 use Rattle.frame_laws.specs.Masks.Telling.{Told}
 use Rattle.frame_laws.specs.Masks.Laws.{MaskLegal}
 use Rattle.frame_laws.proofs.Masks.Bytes.{mask_law}
-use Rattle.frame_laws.specs.Classes.Operands.{Operand, group, scalar, operand_in, operand_of, row_of, is_read}
+use Rattle.frame_laws.specs.Classes.Operands.{Operand, group, scalar, operand_number, operand_of, row_of, is_read}
 use Rattle.frame_laws.specs.Classes.Compared.{Pair, Truth, mask_value, IsMaskReadable, IsCompared, ComparedBytesLaw}
 use Rattle.frame_laws.proofs.Classes.Operands.{IsThere, there-row, operand-here, whole-register, same-operand, same-here}
 
@@ -92,7 +92,7 @@ compared-legal i with truth columns compared =
 pub compared_bytes_law : ComparedBytesLaw
 compared_bytes_law i b with truth body s compared bounded tells some whole =
     let v = registers_of s in
-    let same : (op : Operand) (e : ℕ) → operand_in op i.vlen i.width i.scalar (bits_of v) e ≡ operand_of op (size_of i) i.width i.scalar v e =
+    let same : (op : Operand) (e : ℕ) → operand_number op i.vlen i.width i.scalar (bits_of v) e ≡ operand_of op (size_of i) i.width i.scalar v e =
     λ op e. same-here i op s e compared.framed.vlen some whole in
     mask_law i b (reads with) body (mask_value i with truth v) s (compared-legal i with truth s.columns compared) bounded
     (λ g l. told i b with truth s.columns g (body g) compared (tells g l))

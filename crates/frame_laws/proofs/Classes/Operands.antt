@@ -19,7 +19,7 @@ use Rattle.frame_laws.specs.Laws.{SameAt}
 use Rattle.frame_laws.specs.Bytes.{size_of}
 use Rattle.frame_laws.proofs.Elements.{bit_place, element-placed}
 use Rattle.frame_laws.proofs.Bytes.{are-registers_of}
-use Rattle.frame_laws.specs.Classes.Operands.{Operand, group, scalar, operand_in, operand_of, row_of, is_read}
+use Rattle.frame_laws.specs.Classes.Operands.{Operand, group, scalar, operand_number, operand_of, row_of, is_read}
 
 -- the operand stands in its rows: its group ends with v31 at the latest, or the scalar is put into its row
 abbrev pub IsThere : Shape → Operand → Type 0
@@ -34,7 +34,7 @@ there-row i scalar g there below = inr (inr (inl refl))
 -- what stands in an operand's row at an element is the operand there
 pub operand-here : (op : Operand) (i : Shape) (g k col : ℕ) (s : Slices) → 0 < i.width → 32 / i.width * i.width ≡ 32 → i.vlen ≡ 32 * s.columns → k * i.width + i.width ≤ 32 → col < s.columns
     → IsThere i op → Splatted i s
-    → number i.width (element i.width k col s (row_of op g)) ≡ operand_in op i.vlen i.width i.scalar (bit_in s) (element_number i g k col)
+    → number i.width (element i.width k col s (row_of op g)) ≡ operand_number op i.vlen i.width i.scalar (bit_in s) (element_number i g k col)
 operand-here (group r) i g k col s pos lanes long fits inside there splatted =
     number-same i.width _ _ (λ j below.
     let lt : k * i.width + j < 32 = omega arith in
@@ -65,7 +65,7 @@ group-place w per vlen g p j long inside below =
 
 -- an operand depends on the registers alone that are read
 pub same-operand : (i : Shape) (op : Operand) (g p : ℕ) (u v : Registers) → i.vlen / i.width * i.width ≡ i.vlen → p < i.vlen / i.width → SameAt (is_read op g) i.vlen u v
-    → operand_in op i.vlen i.width i.scalar u (first_of i g + p) ≡ operand_in op i.vlen i.width i.scalar v (first_of i g + p)
+    → operand_number op i.vlen i.width i.scalar u (first_of i g + p) ≡ operand_number op i.vlen i.width i.scalar v (first_of i g + p)
 unfolding element_in
 same-operand i (group r) g p u v per inside same =
     number-same i.width _ _ (λ j below.
@@ -74,14 +74,14 @@ same-operand i (group r) g p u v per inside same =
 same-operand i scalar g p u v per inside same = refl
 
 -- an operand is the same in registers that are bits and in those that are bytes
-same-value : (op : Operand) (size w x : ℕ) (v : List (List ℕ)) (e : ℕ) → 0 < size → 8 * (w / 8) ≡ w → ((q j : ℕ) → byte_at v q j < 2 ^ 8) → operand_in op (8 * size) w x (bits_of v) e ≡ operand_of op size w x v e
+same-value : (op : Operand) (size w x : ℕ) (v : List (List ℕ)) (e : ℕ) → 0 < size → 8 * (w / 8) ≡ w → ((q j : ℕ) → byte_at v q j < 2 ^ 8) → operand_number op (8 * size) w x (bits_of v) e ≡ operand_of op size w x v e
 same-value (group r) size w x v e pos whole bytes = sym (element-bits size v r w e pos bytes whole)
 same-value scalar size w x v e pos whole bytes = refl
 
 -- in the registers that the slices hold
 pub same-here : (i : Shape) (op : Operand) (s : Slices) (e : ℕ) → i.vlen ≡ 32 * s.columns → 0 < s.columns → 8 * (i.width / 8) ≡ i.width
-    → operand_in op i.vlen i.width i.scalar (bits_of (registers_of s)) e ≡ operand_of op (size_of i) i.width i.scalar (registers_of s) e
+    → operand_number op i.vlen i.width i.scalar (bits_of (registers_of s)) e ≡ operand_of op (size_of i) i.width i.scalar (registers_of s) e
 same-here i op s e vlen some whole =
     let v = registers_of s in
     let long : 8 * size_of i ≡ i.vlen = omega arith in
-    ap (λ (n : ℕ). operand_in op n i.width i.scalar (bits_of v) e) (sym long) ∙ same-value op (size_of i) i.width i.scalar v e (omega arith) whole (are-registers_of s).bytes
+    ap (λ (n : ℕ). operand_number op n i.width i.scalar (bits_of v) e) (sym long) ∙ same-value op (size_of i) i.width i.scalar v e (omega arith) whole (are-registers_of s).bytes

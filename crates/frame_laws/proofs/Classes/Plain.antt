@@ -16,7 +16,7 @@ use Rattle.frame_laws.specs.Bytes.{size_of}
 use Rattle.frame_laws.proofs.Registers.{frame_law}
 use Rattle.frame_laws.proofs.Bytes.{bytes_law}
 use Rattle.micro_ir.specs.WorkRows.{IsOperandRow}
-use Rattle.frame_laws.specs.Classes.Operands.{Operand, group, scalar, operand_in, operand_of, row_of, is_read, IsReadable}
+use Rattle.frame_laws.specs.Classes.Operands.{Operand, group, scalar, operand_number, operand_of, row_of, is_read, IsReadable}
 use Rattle.frame_laws.proofs.Classes.Operands.{IsThere, there-row, operand-here, whole-register, same-operand, same-here}
 use Rattle.frame_laws.specs.Classes.Plain.{Operands, Value, plain_value, IsPlain, PlainLaw, PlainBytesLaw}
 
@@ -99,7 +99,7 @@ plain_law i b with value body v s plain bounded real holds =
 pub plain_bytes_law : PlainBytesLaw
 plain_bytes_law i b with value body s plain bounded real some whole =
     let v = registers_of s in
-    let same : (op : Operand) (e : ℕ) → operand_in op i.vlen i.width i.scalar (bits_of v) e ≡ operand_of op (size_of i) i.width i.scalar v e =
+    let same : (op : Operand) (e : ℕ) → operand_number op i.vlen i.width i.scalar (bits_of v) e ≡ operand_of op (size_of i) i.width i.scalar v e =
     λ op e. same-here i op s e plain.framed.vlen some whole in
     bytes_law i b (reads with) body (plain_value i with value v) s (plain-legal i with value s.columns plain) bounded
     (λ g l. plain-realised i b with value s.columns g (body g) plain (real g l)) some whole

@@ -12,7 +12,7 @@ use Rattle.micro_ir.specs.Kinds.{Tells}
 use Rattle.frame_laws.specs.Bytes.{size_of, mask_after}
 use Rattle.frame_laws.specs.Masks.Programs.{mask_of, mask_program}
 use Rattle.frame_laws.specs.Masks.Laws.{MaskFramed}
-use Rattle.frame_laws.specs.Classes.Operands.{Operand, group, scalar, operand_in, operand_of, row_of}
+use Rattle.frame_laws.specs.Classes.Operands.{Operand, group, scalar, operand_number, operand_of, row_of}
 
 -- the two operands
 pub record Pair : Type 0 where
@@ -25,7 +25,7 @@ Truth = (a b : ℕ) → Bool → Bool
 
 -- the result of an element, from registers that are bits
 abbrev pub mask_result : (vlen w x : ℕ) → Pair → Truth → Registers → ℕ → Bool → ℕ
-mask_result vlen w x with truth v e m = from_bool (truth (operand_in with.a vlen w x v e) (operand_in with.b vlen w x v e) m)
+mask_result vlen w x with truth v e m = from_bool (truth (operand_number with.a vlen w x v e) (operand_number with.b vlen w x v e) m)
 
 -- and from registers that are lists of bytes
 abbrev pub mask_value : Shape → Pair → Truth → List (List ℕ) → ℕ → ℕ

@@ -11,9 +11,9 @@ pub data Operand : Type 0 where
   scalar : Operand
 
 -- the operand's number at element e, of w bits, in registers that are bits
-abbrev pub operand_in : Operand → (vlen w x : ℕ) → Registers → ℕ → ℕ
-operand_in (group r) vlen w x v e = element_in vlen v r w e
-operand_in scalar vlen w x v e = low w x
+abbrev pub operand_number : Operand → (vlen w x : ℕ) → Registers → ℕ → ℕ
+operand_number (group r) vlen w x v e = element_in vlen v r w e
+operand_number scalar vlen w x v e = low w x
 
 -- and in registers that are lists of bytes
 abbrev pub operand_of : Operand → (size w x : ℕ) → List (List ℕ) → ℕ → ℕ

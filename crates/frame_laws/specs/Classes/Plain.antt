@@ -12,7 +12,7 @@ use Rattle.frame_laws.specs.Meaning.{after}
 use Rattle.micro_ir.specs.Kinds.{Realises}
 use Rattle.frame_laws.specs.Laws.{Framed, Holds}
 use Rattle.frame_laws.specs.Bytes.{size_of, registers_after}
-use Rattle.frame_laws.specs.Classes.Operands.{Operand, operand_in, operand_of, row_of, IsReadable}
+use Rattle.frame_laws.specs.Classes.Operands.{Operand, operand_number, operand_of, row_of, IsReadable}
 
 -- the operands: a, b and, where a kind has a third, the addend
 pub record Operands : Type 0 where
@@ -26,7 +26,7 @@ Value = (a b addend : ℕ) → Bool → ℕ
 
 -- the result of an element, from registers that are bits
 abbrev pub plain_result : (vlen w x : ℕ) → Operands → Value → Registers → ℕ → Bool → ℕ
-plain_result vlen w x with value v e m = value (operand_in with.a vlen w x v e) (operand_in with.b vlen w x v e) (operand_in with.addend vlen w x v e) m
+plain_result vlen w x with value v e m = value (operand_number with.a vlen w x v e) (operand_number with.b vlen w x v e) (operand_number with.addend vlen w x v e) m
 
 -- and from registers that are lists of bytes
 abbrev pub plain_value : Shape → Operands → Value → List (List ℕ) → ℕ → ℕ
