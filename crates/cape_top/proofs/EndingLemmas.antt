@@ -1,21 +1,29 @@
--- From what a run leaves to how the top call ends.
-use Rattle.std.proofs.Common.{◌≡◌, ℕ, Bool, false, true, List, [], ◌++◌, Option, refl, sym, ap, append_assoc, append-nil, take, drop}
+-- From what a run of the machine leaves to how the top call ends.
+use Rattle.std.proofs.Common.{◌≡◌, ◌⊎◌, inl, inr, ℕ, Bool, false, true, List, [], ◌++◌, Option, Some, None, refl, sym, ap, subst, append_assoc, append-nil, take, drop, IfSome, option_map}
 use Rattle.std.specs.Io.KnownBytes.{Appends}
 use Rattle.std.proofs.lemmas.List.{take-append-drop}
 use Rattle.cape_io.specs.Devices.{PutsFront}
+use Rattle.elf_load.specs.declared.loaded.Loaded.{Loaded}
 use Rattle.rvv_meaning.specs.declared.Mode.{Mode}
 use Rattle.rvv_meaning.specs.declared.Mode.TheVariants.{Running, Exited, Trapped, Unbuilt}
 use Rattle.rvv_meaning.specs.States.{State, run}
 use Rattle.rvv_meaning.specs.Texts.{report, report_at}
 use Rattle.machine.specs.declared.answers.Step.{Step}
+use Rattle.machine.specs.declared.answers.Step.TheVariants.{Ran, Exited as SaysExited, Trapped as SaysTrapped, Unbuilt as SaysUnbuilt}
 use Rattle.machine.specs.Answers.{answer_of}
-use Rattle.machine.specs.Moments.{Held, Moment, moments}
-use Rattle.machine.specs.Views.{Shows, GoesBy, FaultsIn, ReadsIn}
+use Rattle.machine.specs.Moments.{Held, Moment, moments, first_moment, slices_after}
+use Rattle.machine.specs.Views.{GoesBy, FaultsIn, ReadsIn}
 use Rattle.machine.proofs.Showing.{appends_more}
 use Rattle.machine.proofs.Runs.{state_run}
-use Rattle.cape_top.specs.declared.ending.Status.{Status}
 use Rattle.report_texts.specs.Lines.{line_of}
-use Rattle.cape_top.specs.Endings.{EndsBy, ending_of, FaultsBefore, ReadsWithin, status_of, kept_for, held_for, Kept, IsAt, Keeps, status_for_answer, shown}
+use Rattle.command_words.specs.declared.words.RunOptions.{RunOptions}
+use Rattle.cape_top.specs.declared.ending.Status.{Status}
+use Rattle.cape_top.specs.declared.ending.Status.TheVariants.{NoMemory}
+use Rattle.cape_top.specs.Statuses.{IsOfRun, IsFault, KeepsMachine}
+use Rattle.cape_top.specs.Views.{DeviceViews, Devices}
+use Rattle.cape_top.specs.Endings.{Ending, Ends, EndsBy, IsAt, Keeps, Kept, ReadsWithin, WritesPrefixes, end_text, ending_at, ending_from, kept_after, state_if, status_for}
+use Rattle.cape_top.specs.Runs.{LoadedEnds, LoadedReads, MachineEnds, MachineReads, ShowsFirst, loaded_start, moment_ending}
+use Rattle.cape_top.proofs.StatusLemmas.{ends_so, ends_in_fault, kept_or_none, run_ended, run_of_answer}
 
 line_is_report : (mode : Mode) (n : ℕ) → line_of (answer_of mode) n ≡ report_at mode n
 line_is_report Running n = refl
@@ -23,74 +31,117 @@ line_is_report (Exited c) n = refl
 line_is_report (Trapped t) n = refl
 line_is_report Unbuilt n = refl
 
-status_is_mode : (mode : Mode) → status_for_answer (answer_of mode) ≡ status_of mode
-status_is_mode Running = refl
-status_is_mode (Exited c) = refl
-status_is_mode (Trapped t) = refl
-status_is_mode Unbuilt = refl
-
-keeps_held : (mode : Mode) (k : Kept) (machine : Held) → IsAt k machine → Keeps (kept_for mode k) (held_for mode machine)
-keeps_held Running k machine is = is
-keeps_held (Exited c) k machine is = is
-keeps_held (Trapped t) k machine is = is
-keeps_held Unbuilt k machine is = refl
+keeps_held : (a : Step) (k : Kept) (machine : Held) → IsAt k machine → Keeps (kept_after a k) (kept_after a machine)
+keeps_held Ran k machine is = is
+keeps_held (SaysExited c) k machine is = is
+keeps_held (SaysTrapped t) k machine is = is
+keeps_held SaysUnbuilt k machine is = refl
 
 -- how a run ends, stated on the state of the last moment
-abbrev ending_at : Bool → Moment → Rattle.cape_top.specs.Endings.Ending
-ending_at asked m = ending_of asked m.state m.slices
+abbrev last_ending : RunOptions → Moment → Ending
+last_ending options m = ending_at options.state m.state m.slices
 
-ending_run : (asked : Bool) (steps : ℕ) (m : Moment) → ending_of asked (run m.state steps) (moments m steps).slices ≡ ending_at asked (moments m steps)
-ending_run asked steps m = ap (λ (s : State). ending_of asked s (moments m steps).slices) (sym (state_run steps m))
+ending_run : (options : RunOptions) (m : Moment) → moment_ending options m ≡ last_ending options (moments m options.steps)
+ending_run options m = ap (λ (s : State). ending_at options.state s (moments m options.steps).slices) (sym (state_run options.steps m))
 
-module _ (asked : Bool) (steps : ℕ) (machine machine' : Held) (left left' out out' err err' err'' : Option (List ℕ)) (answer : Step) (line : List ℕ)
-    (goes : GoesBy (λ m. moments m steps) false machine machine' left left' out out' err err')
+-- the text at the end is that of the last state
+end_is_report : (with_state : Bool) (machine : Held) (a : Step) (s : State) → s.core ≡ machine.core → a ≡ answer_of machine.core.mode
+    → end_text a with_state machine.core ≡ report s ++ state_if with_state (answer_of s.core.mode) s.core
+end_is_report with_state machine a s holds answered = rw (answered, holds, line_is_report machine.core.mode machine.core.csrs.retired) refl
+
+module _ (options : RunOptions) (machine machine' : Held) (d : Devices) (mid : Option (List ℕ)) (answer : Step)
+    (goes : GoesBy (λ m. moments m options.steps) false machine machine' d.old.input.left d.new.input.left d.old.out.held d.new.out.held d.old.err.held mid)
     (live : machine'.live ≡ true)
     (answered : answer ≡ answer_of machine'.core.mode)
-    (text : line ≡ line_of answer machine'.core.csrs.retired ++ shown asked machine'.core)
   where
-    -- the report was put
-    pub ends_in : (status : Status) (kept : Option Held) → status ≡ status_for_answer answer → kept ≡ held_for machine'.core.mode machine' → Appends err' err'' line
-        → (m : Moment) (fo fe : Option (List ℕ)) → Shows false m machine left fo out fe err → EndsBy (ending_of asked (run m.state steps) (moments m steps).slices) status kept left' fo out' fe err''
-    ends_in status kept is keeps put m fo fe shows =
-        let t = goes m fo fe shows in
-        rw (ending_run asked steps m) record {
-          status_is = rw (is, answered, t.holds) (status_is_mode machine'.core.mode);
-          keeps = rw (keeps, t.holds) (keeps_held machine'.core.mode _ machine' record { core = sym t.holds; slices = sym t.slices; live = live });
-          told = t.told;
-          gained_out = t.gained_out;
-          gained_err = rw (t.holds, ← line_is_report machine'.core.mode machine'.core.csrs.retired, ← answered, ← text) (appends_more fe err' err'' (moments m steps).state.errors line t.gained_err put);
+    ended_by : Appends mid d.new.err.held (end_text answer options.state machine'.core) → (m : Moment) → ShowsFirst m machine d.old
+        → EndsBy (status_for answer) (kept_after answer machine') d (moment_ending options m)
+    ended_by put m shows =
+        let t = goes m _ _ shows in
+        let s = (moments m options.steps).state in
+        let text = end_is_report options.state machine' answer s t.holds answered in
+        rw (ending_run options m) record {
+          status_is = rw (answered, t.holds) refl;
+          keeps = rw (answered, t.holds) (keeps_held (answer_of machine'.core.mode) _ machine' record { core = sym t.holds; slices = sym t.slices; live = live });
+          leaves = t.told;
+          gains_out = t.gained_out;
+          gains_err = rw (← text) (appends_more d.old.err.held mid d.new.err.held s.errors (end_text answer options.state machine'.core) t.gained_err put);
         }
 
-    -- the put of the report failed
-    pub report_fails : PutsFront err' err'' line → (m : Moment) (fo fe : Option (List ℕ)) → Shows false m machine left fo out fe err → FaultsBefore (ending_of asked (run m.state steps) (moments m steps).slices) fo out' fe err''
-    report_fails put m fo fe shows =
-        let t = goes m fo fe shows in
-        let s = (moments m steps).state in
-        let front = take put.0 line in
-        let rest = drop put.0 line in
-        rw (ending_run asked steps m) record {
-          front_out = (s.output, t.gained_out, ([], sym (append-nil s.output)));
-          front_err = (
-            s.errors ++ front,
-            appends_more fe err' err'' s.errors front t.gained_err put.2,
-            (rest, rw (t.holds, ← line_is_report machine'.core.mode machine'.core.csrs.retired, ← answered, ← text, append_assoc s.errors front rest, take-append-drop put.0 line) refl),
+    -- the end was written
+    pub machine_ended : (s : Status) (kept : Option Held) → s ≡ status_for answer → kept ≡ kept_after answer machine'
+        → Appends mid d.new.err.held (end_text answer options.state machine'.core) → MachineEnds machine options d s kept
+    machine_ended s kept is keeps put =
+        λ m shows. rw (is, keeps) (ends_so _ d _ _ (run_ended _ (run_of_answer answer)) (kept_or_none answer machine') (ended_by put m shows))
+
+    report_prefixes : PutsFront mid d.new.err.held (end_text answer options.state machine'.core) → (m : Moment) → ShowsFirst m machine d.old
+        → WritesPrefixes d (moment_ending options m)
+    report_prefixes put m shows =
+        let t = goes m _ _ shows in
+        let s = (moments m options.steps).state in
+        let line = end_text answer options.state machine'.core in
+        let text = end_is_report options.state machine' answer s t.holds answered in
+        rw (ending_run options m) record {
+          gains_out = (s.output, t.gained_out, ([], sym (append-nil s.output)));
+          gains_err = (
+            s.errors ++ take put.0 line,
+            appends_more d.old.err.held mid d.new.err.held s.errors (take put.0 line) t.gained_err put.2,
+            (drop put.0 line, rw (← text, append_assoc s.errors (take put.0 line) (drop put.0 line), take-append-drop put.0 line) refl),
           );
         }
 
--- the run failed
-pub run_fails : (asked : Bool) (steps : ℕ) (machine : Held) (left out out' err err' : Option (List ℕ)) → FaultsIn (λ m. moments m steps) false machine left out out' err err'
-    → (m : Moment) (fo fe : Option (List ℕ)) → Shows false m machine left fo out fe err → FaultsBefore (ending_of asked (run m.state steps) (moments m steps).slices) fo out' fe err'
-run_fails asked steps machine left out out' err err' faults m fo fe shows =
-    let f = faults m fo fe shows in
-    let t = (moments m steps).state in
-    rw (ending_run asked steps m) record {
-      front_out = f.0;
-      front_err = (f.1.0, f.1.1, (f.1.2.0 ++ (report t ++ shown asked t.core), rw f.1.2.1 (append_assoc f.1.0 f.1.2.0 (report t ++ shown asked t.core))));
+    -- the end could not be written
+    pub report_fails : (s : Status) (kept : Option Held) → IsFault s → kept ≡ None
+        → PutsFront mid d.new.err.held (end_text answer options.state machine'.core) → MachineEnds machine options d s kept
+    report_fails s kept fault none put = λ m shows. ends_in_fault _ d s kept fault none (report_prefixes put m shows)
+
+run_prefixes : (options : RunOptions) (machine : Held) (d : Devices) → FaultsIn (λ m. moments m options.steps) false machine d.old.input.left d.old.out.held d.new.out.held d.old.err.held d.new.err.held
+    → (m : Moment) → ShowsFirst m machine d.old → WritesPrefixes d (moment_ending options m)
+run_prefixes options machine d faults m shows =
+    let f = faults m _ _ shows in
+    let t = (moments m options.steps).state in
+    let rest = report t ++ state_if options.state (answer_of t.core.mode) t.core in
+    rw (ending_run options m) record {
+      gains_out = f.0;
+      gains_err = (f.1.0, f.1.1, (f.1.2.0 ++ rest, rw f.1.2.1 (append_assoc f.1.0 f.1.2.0 rest)));
     }
 
+-- a device failed in the run
+pub run_fails : (options : RunOptions) (machine : Held) (d : Devices) (s : Status) (kept : Option Held) → IsFault s → kept ≡ None
+    → FaultsIn (λ m. moments m options.steps) false machine d.old.input.left d.old.out.held d.new.out.held d.old.err.held d.new.err.held → MachineEnds machine options d s kept
+run_fails options machine d s kept fault none faults = λ m shows. ends_in_fault _ d s kept fault none (run_prefixes options machine d faults m shows)
+
 -- a read of the run that fails is at one of its steps
-pub reads_in : (steps : ℕ) (machine : Held) (left out err : Option (List ℕ)) → ReadsIn steps false machine left out err
-    → (m : Moment) (fo fe : Option (List ℕ)) → Shows false m machine left fo out fe err → ReadsWithin m.state steps
-reads_in steps machine left out err reads m fo fe shows =
-    let r = reads m fo fe shows in
+pub reads_in : (options : RunOptions) (machine : Held) (v : DeviceViews) → ReadsIn options.steps false machine v.input.left v.out.held v.err.held → MachineReads machine options v
+reads_in options machine v reads = λ m shows.
+    let r = reads m _ _ shows in
     (r.0, r.1, rw (← state_run r.0 m) r.2, rw (← state_run r.0 m) r.3)
+
+module _ (options : RunOptions) (l : Loaded) (machine : Held)
+  where
+    -- the machine shows the opening state
+    abbrev pub Opens : DeviceViews → Type 0
+    Opens v = (input : List ℕ) → v.input.left ≡ Some input → ShowsFirst (first_moment (loaded_start options l input)) machine v
+
+    no_lack : (s : Status) → IsOfRun s ⊎ IsFault s → s ≡ NoMemory → ⊥
+    no_lack s (inl run) is = subst IsOfRun is run
+    no_lack s (inr fault) is = subst IsFault is fault
+
+    ends_known : (d : Devices) (s : Status) (kept : Option Held) → IsOfRun s ⊎ IsFault s → KeepsMachine s ⊎ (kept ≡ None) → MachineEnds machine options d s kept → Opens d.old
+        → (left : Option (List ℕ)) → d.old.input.left ≡ left → Ends (option_map (λ input. ending_from options (loaded_start options l input)) left) d s kept
+    unfolding slices_after
+    ends_known d s kept only keeps ends opens None is = record { ended = λ ended. tt; failed = λ failed. tt; lacking = λ lacks. absurd (no_lack s only lacks); keeps_or_none = keeps }
+    ends_known d s kept only keeps ends opens (Some input) is = ends (first_moment (loaded_start options l input)) (opens input is)
+
+    -- the run of a machine that shows the opening state is that of what was loaded
+    pub loaded_ends : (d : Devices) (s : Status) (kept : Option Held) → IsOfRun s ⊎ IsFault s → KeepsMachine s ⊎ (kept ≡ None) → MachineEnds machine options d s kept → Opens d.old
+        → LoadedEnds l options d s kept
+    loaded_ends d s kept only keeps ends opens = ends_known d s kept only keeps ends opens d.old.input.left refl
+
+    reads_known : (v : DeviceViews) → MachineReads machine options v → Opens v → (left : Option (List ℕ)) → v.input.left ≡ left
+        → IfSome left (λ input. ReadsWithin (loaded_start options l input) options.steps)
+    reads_known v reads opens None is = tt
+    reads_known v reads opens (Some input) is = reads (first_moment (loaded_start options l input)) (opens input is)
+
+    pub loaded_reads : (v : DeviceViews) → MachineReads machine options v → Opens v → LoadedReads l options v
+    loaded_reads v reads opens = reads_known v reads opens v.input.left refl

@@ -1,4 +1,5 @@
--- Lemmas on reading an image and on how a command ends.
-pub mod EndingLemmas
+-- Lemmas on the top call.
 pub mod ReadLemmas
+pub mod StatusLemmas
+pub mod EndingLemmas
 pub mod TopLemmas

@@ -1,5 +1,5 @@
 -- What was read is the file's bytes up to the limit, and it has the fault of the file.
-use Rattle.std.proofs.Common.{◌≡◌, ℕ, ◌<◌, ◌≤◌, ◌⊎◌, inl, inr, List, [], ◌++◌, length, take, Option, Some, None, refl, sym, ap, ◌∙◌, append-nil, subst, arith, true}
+use Rattle.std.proofs.Common.{◌≡◌, ℕ, ◌<◌, ◌≤◌, ◌⊎◌, inl, inr, List, [], ◌++◌, length, take, Option, Some, None, refl, sym, ap, ◌∙◌, append-nil, subst, arith, true, false, true≢false, Result, is_err, IsErr}
 use Rattle.std.specs.Prelude.{nat_lt}
 use Rattle.std.proofs.lemmas.List.{take_at, take_all, length-take-le}
 use Rattle.std.proofs.lemmas.Bool.{cases_lt}
@@ -8,7 +8,11 @@ use Rattle.std.specs.Io.KnownBytes.{IsAtEnd}
 use Rattle.elf_load.specs.Faults.{fault, image_limit}
 use Rattle.elf_load.specs.declared.faults.LoadFault.TheVariants.{TooBig}
 use Rattle.elf_load.specs.declared.loaded.Loaded.{Loaded}
-use Rattle.cape_top.specs.Reading.{read_limit, IsLoadedFrom}
+use Rattle.elf_load.specs.declared.faults.LoadFault.{LoadFault}
+use Rattle.cape_io.specs.Devices.{Told, Untold, Absent, Present}
+use Rattle.cape_top.specs.declared.loading.Stop.{Stop}
+use Rattle.cape_top.specs.declared.loading.Stop.TheVariants.{ReadFault, NoMemory, Refused}
+use Rattle.cape_top.specs.Reading.{read_limit, IsFaultOf, IsLoadedFrom, IsLoadedOf, IsReadOf, IsStopOf}
 
 pub read_full : (limit : ℕ) (bytes held rest : List ℕ) → bytes ≡ held ++ rest → length held ≡ limit → held ≡ take limit bytes
 read_full limit bytes held rest is long = rw is (sym (take_at held rest limit long))
@@ -50,3 +54,29 @@ pub loaded_read : (image held : List ℕ) (loaded : Loaded) → held ≡ take re
 loaded_read image held loaded is from =
     let whole : held ≡ image = is ∙ whole_by image (rw is at from.sound) (cases_lt read_limit (length image)) in
     subst (λ (i : List ℕ). IsLoadedFrom i loaded) whole from
+
+-- a result that is no error is none
+pub no_error : {A E : Type 0} (r : Result A E) → false ≡ is_err r → IsErr r → ⊥
+no_error r is error = true≢false (sym error ∙ sym is)
+
+-- what was read, as far as the file is known
+pub read_of : (known : Told) (items : List ℕ) → (known ≡ Absent → ⊥) → ((bytes : List ℕ) → known ≡ Present bytes → items ≡ take read_limit bytes) → IsReadOf known items
+read_of Untold items there read = tt
+read_of Absent items there read = there refl
+read_of (Present bytes) items there read = read bytes refl
+
+pub loaded_of : (known : Told) (items : List ℕ) (loaded : Loaded) → IsReadOf known items → IsLoadedFrom items loaded → IsLoadedOf known loaded
+loaded_of Untold items loaded read from = tt
+loaded_of Absent items loaded read from = read
+loaded_of (Present image) items loaded read from = loaded_read image items loaded read from
+
+pub fault_of : (known : Told) (items : List ℕ) (f : LoadFault) → IsReadOf known items → fault items ≡ Some f → IsFaultOf known f
+fault_of Untold items f read is = tt
+fault_of Absent items f read is = read
+fault_of (Present image) items f read is = sym (fault_read image items read) ∙ is
+
+-- an image without a fault, or one that memory does not suffice for
+pub stop_of : (known : Told) (s : Stop) → ((f : LoadFault) → s ≡ Refused f → IsFaultOf known f) → IsStopOf known s
+stop_of known (Refused f) faults = faults f refl
+stop_of known ReadFault faults = tt
+stop_of known NoMemory faults = tt

@@ -1,106 +1,120 @@
--- How a command ends, by what was loaded, and a machine at its start shows the start.
-use Rattle.std.proofs.Common.{◌≡◌, ◌⊎◌, inl, inr, ℕ, ◌/◌, false, List, [], map, take, drop, Option, Some, None, refl, sym, ap, subst}
-use Rattle.std.proofs.lemmas.List.{take-append-drop}
-use Rattle.cape_io.specs.Devices.{PutsFront}
+-- How a command ends, by what was loaded; and a machine at its start shows the opening state.
+use Rattle.std.proofs.Common.{◌≡◌, ◌⊎◌, inl, inr, ℕ, ◌/◌, List, [], map, Option, Some, None, refl, sym, ap, subst, IfSome, option_map}
+use Rattle.std.specs.Io.KnownBytes.{Appends}
+use Rattle.std.specs.Option.{option_map_or}
+use Rattle.cape_io.specs.Devices.{PutsFront, Told, Untold, Absent, Present}
 use Rattle.guest_mem.specs.Pages.{Memory}
-use Rattle.elf_load.specs.Faults.{fault}
 use Rattle.elf_load.specs.Layout.{span_of}
 use Rattle.elf_load.specs.declared.faults.LoadFault.{LoadFault}
 use Rattle.elf_load.specs.declared.loaded.Loaded.{Loaded}
 use Rattle.bit_rows.specs.Slices.{blank}
 use Rattle.cam_chain.specs.ChainValue.{slices_of}
 use Rattle.vtype_cfg.specs.declared.configuration.Policy.{Policy}
-use Rattle.rvv_meaning.specs.declared.Mode.{Mode}
-use Rattle.rvv_meaning.specs.declared.Mode.TheVariants.{Running, Exited, Trapped, Unbuilt}
 use Rattle.rvv_meaning.specs.Images.{start_core, start_state}
 use Rattle.machine.specs.Moments.{Held, first_moment}
 use Rattle.machine.specs.Opening.{start, memory_of}
-use Rattle.machine.specs.Views.{Shows, GainsFront}
-use Rattle.machine.specs.Answers.{answer_of}
-use Rattle.machine.specs.declared.answers.Step.{Step}
 use Rattle.machine.proofs.Carried.{appends_none}
-use Rattle.cape_top.specs.declared.ending.Status.{Status}
-use Rattle.cape_top.specs.declared.ending.Status.TheVariants.{Done, Trapped as HasTrapped, StepLimit, Exited as ExitedWith, Refused, Usage, Unbuilt as NotBuilt, ReadFault, WriteFault, NoMemory}
 use Rattle.command_words.specs.declared.words.Command.{Command}
 use Rattle.command_words.specs.declared.words.Command.TheVariants.{Run, Check}
 use Rattle.command_words.specs.declared.words.RunOptions.{RunOptions}
-use Rattle.cape_top.specs.Endings.{IsEnded, IsFault, IsOfRun, KeepsMachine, ending, ending_from, refused, checked, status_for_answer, held_for}
 use Rattle.report_texts.specs.Layouts.{layout_text}
-use Rattle.cape_top.specs.Reading.{IsLoadedFrom}
-
--- an image with a fault is refused
-pub refused_ends : (command : Command) (image input : List ℕ) (f : LoadFault) → fault image ≡ Some f → ending command image input ≡ refused f input
-unfolding ending
-refused_ends command image input f is = rw is refl
+use Rattle.cape_top.specs.declared.ending.Status.{Status}
+use Rattle.cape_top.specs.declared.ending.Status.TheVariants.{Done, WriteFault}
+use Rattle.cape_top.specs.Statuses.{IsEnded}
+use Rattle.cape_top.specs.Views.{DeviceViews, Devices}
+use Rattle.cape_top.specs.Endings.{Ending, Ends, EndsBy, ReadsKnown, WritesPrefixes, command_ending, ending_from, ending_without_run, refused_ending, usage_ending}
+use Rattle.cape_top.specs.Reading.{IsFaultOf, IsLoadedFrom, IsLoadedOf}
+use Rattle.cape_top.specs.Runs.{LoadedEnds, LoadedReads, ShowsFirst, loaded_start}
+use Rattle.cape_top.proofs.StatusLemmas.{ends_in_fault, ends_so, prefix_none, prefix_put}
 
 -- the memory that is loaded
 abbrev pub memory_in : Loaded → Memory
 memory_in l = memory_of l.regions l.heap l.heap_end
 
-pub start_loaded : (vlen : ℕ) (policy : Policy) (image input : List ℕ) (l : Loaded) → IsLoadedFrom image l → start image vlen policy input ≡ start_state vlen policy l.entry_pc (memory_in l) input
-unfolding start
-start_loaded vlen policy image input l from = rw (from.entry_pc, from.regions_are, from.heap_is, from.heap_end_is) refl
-
--- a run of an image ends as a run of what was loaded of it
-pub run_ends : (options : RunOptions) (image input : List ℕ) (l : Loaded) → IsLoadedFrom image l → ending (Run options) image input ≡ ending_from options (start_state options.vlen options.policy l.entry_pc (memory_in l) input)
-unfolding ending
-run_ends options image input l from = rw from.sound (ap (ending_from options) (start_loaded options.vlen options.policy image input l from))
-
--- a check of an image shows what was loaded of it
-pub check_ends : (image input : List ℕ) (l : Loaded) → IsLoadedFrom image l → ending Check image input ≡ record (checked image input) { out = layout_text l.entry_pc (map span_of l.regions) }
-unfolding ending
-check_ends image input l from = rw (from.sound, from.entry_pc, from.regions_are) refl
-
--- a machine at its start shows the first moment
-pub shows_start : (vlen : ℕ) (policy : Policy) (pc : ℕ) (mem : Memory) (input : List ℕ) (machine : Held) (left out err : Option (List ℕ)) → left ≡ Some input
+-- a machine in the opening state with these devices shows the first moment
+pub shows_start : (vlen : ℕ) (policy : Policy) (pc : ℕ) (mem : Memory) (input : List ℕ) (machine : Held) (v : DeviceViews) → v.input.left ≡ Some input
     → machine.core ≡ start_core vlen policy pc mem → slices_of machine.chain ≡ blank (vlen / 32) → machine.last ≡ []
-    → Shows false (first_moment (start_state vlen policy pc mem input)) machine left out out err err
+    → ShowsFirst (first_moment (start_state vlen policy pc mem input)) machine v
 unfolding start_state start_core
-shows_start vlen policy pc mem input machine left out err told core slices last =
-    record { holds = sym core; slices = sym slices; last = sym last; told = told; gained_out = appends_none out; gained_err = appends_none err }
+shows_start vlen policy pc mem input machine v known core slices last = record {
+  holds = sym core;
+  slices = sym slices;
+  last = sym last;
+  told = known;
+  gained_out = appends_none v.out.held;
+  gained_err = appends_none v.err.held;
+}
 
-pub front_put : (line : List ℕ) (first held : Option (List ℕ)) → PutsFront first held line → GainsFront first held line
-front_put line first held put = (take put.0 line, put.2, (drop put.0 line, sym (take-append-drop put.0 line)))
+start_loaded : (options : RunOptions) (image input : List ℕ) (l : Loaded) → IsLoadedFrom image l → start image options.vlen options.policy input ≡ loaded_start options l input
+unfolding start
+start_loaded options image input l from = rw (from.entry_pc, from.regions_are, from.heap_is, from.heap_end_is) refl
 
--- nothing is a front of any text
-pub front_none : (held : Option (List ℕ)) (whole : List ℕ) → GainsFront held held whole
-front_none held whole = ([], appends_none held, (whole, refl))
+-- a fact of the ending of a refused image holds of the ending of the command, as far as its file is known
+pub refused_if : (command : Command) (known : Told) (left : Option (List ℕ)) (f : LoadFault) → IsFaultOf known f
+    → (P : Ending → Type 0) → P (refused_ending f left) → IfSome (command_ending command known left) P
+unfolding command_ending
+refused_if command Untold left f is P holds = tt
+refused_if command Absent left f is P holds = absurd is
+refused_if command (Present image) left f is P holds = rw is holds
 
--- a call that ended, and did so or failed, did so
-pub ended_so : (s t : Status) → IsEnded s → (s ≡ t) ⊎ (s ≡ WriteFault) → s ≡ t
-ended_so s t ended (inl is) = is
-ended_so s t ended (inr failed) = absurd (subst IsEnded failed ended)
+-- and so of the ending of a check
+pub checked_if : (known : Told) (left : Option (List ℕ)) (l : Loaded) → IsLoadedOf known l
+    → (P : Ending → Type 0) → P (ending_without_run Done (layout_text l.entry_pc (map span_of l.regions)) [] left) → IfSome (command_ending Check known left) P
+unfolding command_ending
+checked_if Untold left l from P holds = tt
+checked_if Absent left l from P holds = absurd from
+checked_if (Present image) left l from P holds = rw (from.sound, ← from.entry_pc, ← from.regions_are) holds
 
--- a call that failed where it could not but put a text
-pub failed_so : (s t : Status) → (IsFault t → ⊥) → IsFault s → (s ≡ t) ⊎ (s ≡ WriteFault) → s ≡ WriteFault
-failed_so s t never failed (inl is) = absurd (never (subst IsFault is failed))
-failed_so s t never failed (inr is) = is
+-- a fact of the ending of a usage error holds of the ending of words outside the grammar
+pub usage_if : (ending : Command → Option Ending) (found : Option Command) (left : Option (List ℕ)) → found ≡ None
+    → (P : Ending → Type 0) → P (usage_ending left) → IfSome (option_map_or ending found (Some (usage_ending left))) P
+usage_if ending found left none P holds = rw none holds
 
-no_end : (s : Status) → IsEnded s → IsFault s → ⊥
-no_end Done ended failed = failed
-no_end (ExitedWith c) ended failed = failed
-no_end HasTrapped ended failed = failed
-no_end StepLimit ended failed = failed
-no_end (Refused f) ended failed = failed
-no_end Usage ended failed = failed
-no_end ReadFault ended failed = ended
-no_end WriteFault ended failed = ended
-no_end NoMemory ended failed = failed
-no_end NotBuilt ended failed = failed
+run_of_image : (options : RunOptions) (image : List ℕ) (l : Loaded) → IsLoadedFrom image l → (left : Option (List ℕ))
+    → option_map (λ input. ending_from options (loaded_start options l input)) left ≡ command_ending (Run options) (Present image) left
+unfolding command_ending
+run_of_image options image l from None = rw from.sound refl
+run_of_image options image l from (Some input) = rw from.sound (ap (λ s. Some (ending_from options s)) (sym (start_loaded options image input l from)))
 
--- a run that ended did so by its state
-pub ended_run : (s : Status) → IsEnded s → IsOfRun s ⊎ (IsFault s ⊎ (s ≡ NoMemory)) → IsOfRun s
-ended_run s ended (inl is) = is
-ended_run s ended (inr (inl failed)) = absurd (no_end s ended failed)
-ended_run s ended (inr (inr wants)) = absurd (subst IsEnded wants ended)
+-- the run of what was loaded ends as the command does
+pub run_ends : (options : RunOptions) (known : Told) (l : Loaded) → IsLoadedOf known l → (d : Devices) (s : Status) (kept : Option Held)
+    → LoadedEnds l options d s kept → Ends (command_ending (Run options) known d.old.input.left) d s kept
+unfolding command_ending
+run_ends options Untold l from d s kept ends = record { ended = λ ended. tt; failed = λ failed. tt; lacking = ends.lacking; keeps_or_none = ends.keeps_or_none }
+run_ends options Absent l from d s kept ends = absurd from
+run_ends options (Present image) l from d s kept ends = subst (λ e. Ends e d s kept) (run_of_image options image l from d.old.input.left) ends
 
--- words have one command at most
-pub same_command : (found read : Option Command) (command c : Command) → found ≡ read → found ≡ Some c → read ≡ Some command → command ≡ c
-same_command found read command c same is named = cc
+reads_of_image : (options : RunOptions) (image : List ℕ) (l : Loaded) → IsLoadedFrom image l → (left : Option (List ℕ)) (v : DeviceViews) → v.input.left ≡ left
+    → LoadedReads l options v → ReadsKnown (Run options) (Present image) left
+reads_of_image options image l from None v is reads = tt
+reads_of_image options image l from (Some input) v is reads = (from.sound, rw (start_loaded options image input l from) (rw is at reads))
 
--- the machine is kept where the mode says so
-pub kept_or_none : (mode : Mode) (machine : Held) (a : Step) → a ≡ answer_of mode → KeepsMachine (status_for_answer a) ⊎ (held_for mode machine ≡ None)
-kept_or_none Running machine a is = inl (rw is tt)
-kept_or_none (Exited code) machine a is = inl (rw is tt)
-kept_or_none (Trapped t) machine a is = inl (rw is tt)
-kept_or_none Unbuilt machine a is = inr refl
+-- and reads the input where it does
+pub run_reads : (options : RunOptions) (known : Told) (l : Loaded) → IsLoadedOf known l → (v : DeviceViews) → LoadedReads l options v → ReadsKnown (Run options) known v.input.left
+run_reads options Untold l from v reads = tt
+run_reads options Absent l from v reads = absurd from
+run_reads options (Present image) l from v reads = reads_of_image options image l from v.input.left v refl reads
+
+module _ (e : Option Ending) (d : Devices) (s t : Status) (kept : Option Held) (none : kept ≡ None) (out err : List ℕ)
+    (known : (P : Ending → Type 0) → P (ending_without_run t out err d.old.input.left) → IfSome e P)
+    (left : d.new.input.left ≡ d.old.input.left)
+  where
+    -- a command that only writes a text to the output ends so, if it writes the whole
+    pub writes_out : IsEnded t → err ≡ [] → Appends d.old.err.held d.new.err.held [] → (s ≡ t) ⊎ (s ≡ WriteFault)
+        → (s ≡ t → Appends d.old.out.held d.new.out.held out) → (s ≡ WriteFault → PutsFront d.old.out.held d.new.out.held out) → Ends e d s kept
+    writes_out ended is nothing (inl same) whole front =
+        ends_so e d s kept (subst IsEnded (sym same) ended) (inr none)
+        (known (EndsBy s kept d) record { status_is = same; keeps = none; leaves = left; gains_out = whole same; gains_err = rw is nothing })
+    writes_out ended is nothing (inr failed) whole front =
+        ends_in_fault e d s kept (rw failed tt) none
+        (known (WritesPrefixes d) record { gains_out = prefix_put _ _ out (front failed); gains_err = prefix_none _ _ err nothing })
+
+    -- and likewise to the error output
+    pub writes_err : IsEnded t → out ≡ [] → Appends d.old.out.held d.new.out.held [] → (s ≡ t) ⊎ (s ≡ WriteFault)
+        → (s ≡ t → Appends d.old.err.held d.new.err.held err) → (s ≡ WriteFault → PutsFront d.old.err.held d.new.err.held err) → Ends e d s kept
+    writes_err ended is nothing (inl same) whole front =
+        ends_so e d s kept (subst IsEnded (sym same) ended) (inr none)
+        (known (EndsBy s kept d) record { status_is = same; keeps = none; leaves = left; gains_out = rw is nothing; gains_err = whole same })
+    writes_err ended is nothing (inr failed) whole front =
+        ends_in_fault e d s kept (rw failed tt) none
+        (known (WritesPrefixes d) record { gains_out = prefix_none _ _ out nothing; gains_err = prefix_put _ _ err (front failed) })

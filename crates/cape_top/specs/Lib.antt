@@ -1,4 +1,9 @@
 -- What the top call promises.
-pub mod Endings
-pub mod Reading
 pub mod Codes
+pub mod Statuses
+pub mod Views
+pub mod Calls
+pub mod Reading
+pub mod Endings
+pub mod Runs
+pub mod Promises

@@ -1,10 +1,10 @@
 // Reading an image, and loading it.
-ghost use Rattle.std.specs.Prelude.{◌≡◌, ◌≢◌, ◌<◌, ◌≤◌, ◌+◌, ◌++◌, ℕ, List, Some, true, false, [], take, length, vec_len, IfOk, OnOk, IfErr, IsErrOf};
-ghost use Rattle.cape_io.specs.Devices.{Rose, Present, word_at};
+ghost use Rattle.std.specs.Prelude.{◌≡◌, ◌≢◌, ◌<◌, ◌≤◌, true, false, length, vec_len, IfOk, OnOk, IfErr, IsErrOf};
+ghost use Rattle.cape_io.specs.Devices.{Absent, Rose, word_at};
 ghost use Rattle.std.specs.Io.KnownBytes.{IsAtEnd};
-ghost use Rattle.elf_load.specs.Faults.{fault};
 ghost use Rattle.elf_load.specs.declared.faults.LoadFault.{LoadFault};
-ghost use Rattle.cape_top.specs.Reading.{MovesOn, FailedOn, IsLoadedFrom, read_limit};
+ghost use Rattle.cape_top.specs.Calls.{FailedOn, files_call};
+ghost use Rattle.cape_top.specs.Reading.{MovesOn, IsReadOf, IsLoadedOf, IsStopOf, IsRefusal};
 
 use cape_io::Files;
 use elf_load::{LoadFault, Loaded, load};
@@ -24,7 +24,7 @@ pub(crate) enum Stop {
     Refused(LoadFault),
 }
 
-// Appends the next piece of the open file, and says whether there may be more.
+// Appends the next piece of the open file to the image, and says whether there may be more.
 fn read_piece<F: Files>(files: &mut F, image: &mut Vec<u8>) -> Result<bool, Stop>
     requires open { F.is_open files.old ≡ true }
     requires room { vec_len image.old < LIMIT }
@@ -35,7 +35,7 @@ fn read_piece<F: Files>(files: &mut F, image: &mut Vec<u8>) -> Result<bool, Stop
     ensures open { F.is_open files.new ≡ true }
     ensures cause { IsErrOf result Stop.ReadFault → Rose (F.faults files.old) (F.faults files.new) }
     ensures later { F.faults files.old ≤ F.faults files.new }
-    ensures own { IfErr result (λ stop. (f : LoadFault) → stop ≡ Stop.Refused f → ⊥) }
+    ensures own { IfErr result (λ stop. ¬ IsRefusal stop) }
     ensures at { F.at files.new ≡ F.at files.old }
     ensures since { F.since files.new ≡ F.since files.old }
 {
@@ -53,9 +53,10 @@ fn read_piece<F: Files>(files: &mut F, image: &mut Vec<u8>) -> Result<bool, Stop
 // The bytes of the file of the word at a place, up to the limit. Each turn takes at least one byte or is the last.
 fn read_image<F: Files>(alloc: Global, files: &mut F, place: usize) -> Result<Vec<u8>, Stop>
     requires place { place < length (F.names files.old) }
-    ensures read { IfOk result (λ image. (bytes : List ℕ) → F.told files.old (word_at (F.names files.old) place) ≡ Present bytes → image.items ≡ take read_limit bytes) }
-    ensures cause { IsErrOf result Stop.ReadFault → FailedOn place (F.faults files.old) (F.faults files.new) (F.at files.new) (F.since files.new) }
-    ensures own { IfErr result (λ stop. (f : LoadFault) → stop ≡ Stop.Refused f → ⊥) }
+    ensures read { IfOk result (λ image. IsReadOf (F.told files.old (word_at (F.names files.old) place)) image.items) }
+    ensures absent { F.told files.old (word_at (F.names files.old) place) ≡ Absent → result ≡ Err Stop.ReadFault }
+    ensures cause { IsErrOf result Stop.ReadFault → FailedOn place (files_call F.Files files.old files.new) }
+    ensures own { IfErr result (λ stop. ¬ IsRefusal stop) }
     ensures later { F.faults files.old ≤ F.faults files.new }
 {
     if files.open(place).is_err() {
@@ -73,7 +74,7 @@ fn read_image<F: Files>(alloc: Global, files: &mut F, place: usize) -> Result<Ve
     Ok(image)
 }
 
-// Why nothing is loaded where the loader answers so: want of memory is no fault of the image.
+// Why nothing is loaded, by the loader's answer. A lack of memory is no fault of the image.
 fn stop_for(fault: LoadFault) -> Stop
     ensures refused { (f : LoadFault) → result ≡ Stop.Refused f → (f ≡ fault) × (fault ≢ LoadFault.NoMemory) }
     ensures read { result ≢ Stop.ReadFault }
@@ -91,9 +92,10 @@ pub(crate) fn load_image<F: Files>(
     place: usize,
 ) -> Result<Loaded, Stop>
     requires place { place < length (F.names files.old) }
-    ensures loaded { IfOk result (λ loaded. (image : List ℕ) → F.told files.old (word_at (F.names files.old) place) ≡ Present image → IsLoadedFrom image loaded) }
-    ensures refused { IfErr result (λ stop. (f : LoadFault) → stop ≡ Stop.Refused f → (image : List ℕ) → F.told files.old (word_at (F.names files.old) place) ≡ Present image → fault image ≡ Some f) }
-    ensures cause { IsErrOf result Stop.ReadFault → FailedOn place (F.faults files.old) (F.faults files.new) (F.at files.new) (F.since files.new) }
+    ensures loaded { IfOk result (IsLoadedOf (F.told files.old (word_at (F.names files.old) place))) }
+    ensures refused { IfErr result (IsStopOf (F.told files.old (word_at (F.names files.old) place))) }
+    ensures absent { F.told files.old (word_at (F.names files.old) place) ≡ Absent → result ≡ Err Stop.ReadFault }
+    ensures cause { IsErrOf result Stop.ReadFault → FailedOn place (files_call F.Files files.old files.new) }
     ensures later { F.faults files.old ≤ F.faults files.new }
 {
     let image = read_image(alloc, files, place)?;

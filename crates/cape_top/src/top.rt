@@ -1,17 +1,17 @@
 // The top call.
-ghost use Rattle.std.specs.Prelude.{◌≢◌, ◌≡◌, ◌<◌, ◌≤◌, ◌⊎◌, ℕ, List, Some, None, [], length, map, false, string_bytes, IsSome, IsSomeAnd};
+ghost use Rattle.std.specs.Prelude.{◌≢◌, ◌≡◌, ◌<◌, ◌≤◌, ◌⊎◌, [], None, false, length, map, string_bytes};
 ghost use Rattle.std.specs.Io.KnownBytes.{Appends};
-ghost use Rattle.cape_io.specs.Devices.{Rose, Present, PutsFront, word_at};
-ghost use Rattle.rvv_meaning.specs.Images.{start_state};
-ghost use Rattle.rvv_meaning.specs.Texts.{usage_line};
-ghost use Rattle.machine.specs.Opening.{memory_of};
-ghost use Rattle.cape_top.specs.Endings.{IsOfRun, IsEnded, IsFault, IsRefused, KeepsMachine, EndsBy, FaultsBefore, ReadsWithin, ReadsInput, ending, ending_from};
-ghost use Rattle.command_words.specs.Grammar.{command_of as command_in, AreInRange, IsInRange, IsRun};
+ghost use Rattle.cape_io.specs.Devices.{Absent, PutsFront, Rose, word_at};
 ghost use Rattle.elf_load.specs.Layout.{span_of};
+ghost use Rattle.command_words.specs.Grammar.{AreInRange, IsInRange, IsRun};
+ghost use Rattle.command_words.specs.declared.words.Command.{Command};
 ghost use Rattle.report_texts.specs.Layouts.{layout_text};
 ghost use Rattle.report_texts.specs.Lines.{refused_line as line_for};
-ghost use Rattle.cape_top.specs.Reading.{FailedOn};
-ghost use Rattle.command_words.specs.declared.words.Command.{Command};
+ghost use Rattle.cape_top.specs.Views.{devices, views};
+ghost use Rattle.cape_top.specs.Calls.{call, SinkRose, WritesNothing};
+ghost use Rattle.cape_top.specs.Statuses.{IsOfRun, IsFault};
+ghost use Rattle.cape_top.specs.Runs.{LoadedEnds, LoadedReads};
+ghost use Rattle.cape_top.specs.Promises.{words_of, CallEnds, CommandEnds, HasCause, ReadCause};
 
 use crate::ending::Status;
 use crate::loading::{Stop, load_image};
@@ -26,7 +26,7 @@ use std::alloc::Global;
 // The place of the operand among the words.
 const OPERAND: usize = 1;
 
-// Refuses an image.
+// Writes why an image is refused.
 fn refuse<E: Sink>(fault: LoadFault, err: &mut E) -> Status
     ensures only { (result ≡ Status.Refused fault) ⊎ (result ≡ Status.WriteFault) }
     ensures said { result ≡ Status.Refused fault → Appends (E.held err.old) (E.held err.new) (line_for fault) }
@@ -53,16 +53,10 @@ fn run_loaded<S: Source, O: Sink, E: Sink>(
 ) -> Status
     requires range { AreInRange options }
     requires none { kept.old ≡ None }
-    ensures ends { IsOfRun result → (input_bytes : List ℕ) → S.left input.old ≡ Some input_bytes
-        → EndsBy (ending_from options (start_state options.vlen options.policy loaded.entry_pc (memory_of loaded.regions loaded.heap loaded.heap_end) input_bytes)) result kept.new (S.left input.new) (O.held out.old) (O.held out.new) (E.held err.old) (E.held err.new) }
-    ensures fronts { IsFault result → (input_bytes : List ℕ) → S.left input.old ≡ Some input_bytes
-        → FaultsBefore (ending_from options (start_state options.vlen options.policy loaded.entry_pc (memory_of loaded.regions loaded.heap loaded.heap_end) input_bytes)) (O.held out.old) (O.held out.new) (E.held err.old) (E.held err.new) }
+    ensures ends { LoadedEnds loaded options (devices S.Source O.Sink E.Sink input.old input.new out.old out.new err.old err.new) result kept.new }
     ensures only { IsOfRun result ⊎ (IsFault result ⊎ (result ≡ Status.NoMemory)) }
     ensures read { result ≡ Status.ReadFault → Rose (S.faults input.old) (S.faults input.new) }
-    ensures reads { result ≡ Status.ReadFault → (input_bytes : List ℕ) → S.left input.old ≡ Some input_bytes
-        → ReadsWithin (start_state options.vlen options.policy loaded.entry_pc (memory_of loaded.regions loaded.heap loaded.heap_end) input_bytes) options.steps }
-    ensures nothing { result ≡ Status.NoMemory → Appends (O.held out.old) (O.held out.new) [] × Appends (E.held err.old) (E.held err.new) [] }
-    ensures kept { KeepsMachine result ⊎ (kept.new ≡ None) }
+    ensures reads { result ≡ Status.ReadFault → LoadedReads loaded options (views S.Source O.Sink E.Sink input.old out.old err.old) }
     ensures write { result ≡ Status.WriteFault → Rose (O.faults out.old) (O.faults out.new) ⊎ Rose (E.faults err.old) (E.faults err.new) }
     ensures later_input { S.faults input.old ≤ S.faults input.new }
     ensures later_out { O.faults out.old ≤ O.faults out.new }
@@ -74,7 +68,7 @@ fn run_loaded<S: Source, O: Sink, E: Sink>(
     }
 }
 
-// Shows what would be mapped of what was loaded.
+// Writes what would be mapped of what was loaded.
 fn check_loaded<O: Sink>(loaded: &Loaded, out: &mut O) -> Status
     ensures only { (result ≡ Status.Done) ⊎ (result ≡ Status.WriteFault) }
     ensures said { result ≡ Status.Done → Appends (O.held out.old) (O.held out.new) (layout_text loaded.now.entry_pc (map span_of loaded.now.regions)) }
@@ -88,7 +82,7 @@ fn check_loaded<O: Sink>(loaded: &Loaded, out: &mut O) -> Status
     }
 }
 
-// Does a command on the image that the word at a place names.
+// Does a command on the file that the word at a place names.
 fn do_command<F: Files, S: Source, O: Sink, E: Sink>(
     alloc: Global,
     command: Command,
@@ -102,23 +96,13 @@ fn do_command<F: Files, S: Source, O: Sink, E: Sink>(
     requires place { place < length (F.names files.old) }
     requires range { IsInRange command }
     requires none { kept.old ≡ None }
-    ensures ends { IsEnded result → (image input_bytes : List ℕ) → F.told files.old (word_at (F.names files.old) place) ≡ Present image → S.left input.old ≡ Some input_bytes
-        → EndsBy (ending command image input_bytes) result kept.new (S.left input.new) (O.held out.old) (O.held out.new) (E.held err.old) (E.held err.new) }
-    ensures fronts { IsFault result → (image input_bytes : List ℕ) → F.told files.old (word_at (F.names files.old) place) ≡ Present image → S.left input.old ≡ Some input_bytes
-        → FaultsBefore (ending command image input_bytes) (O.held out.old) (O.held out.new) (E.held err.old) (E.held err.new) }
+    ensures ends { CommandEnds command place (call F.Files S.Source O.Sink E.Sink files.old files.new input.old input.new out.old out.new err.old err.new) result kept.new }
     ensures of_run { IsOfRun result → IsRun command }
     ensures of_check { result ≡ Status.Done → command ≡ Command.Check }
-    ensures nothing { result ≡ Status.NoMemory → Appends (O.held out.old) (O.held out.new) [] × Appends (E.held err.old) (E.held err.new) [] }
-    ensures kept { KeepsMachine result ⊎ (kept.new ≡ None) }
-    ensures never { result ≢ Status.Usage }
-    ensures read { result ≡ Status.ReadFault → (FailedOn place (F.faults files.old) (F.faults files.new) (F.at files.new) (F.since files.new) × (Appends (O.held out.old) (O.held out.new) [] × Appends (E.held err.old) (E.held err.new) [])) ⊎ (Rose (S.faults input.old) (S.faults input.new) × IsRun command) }
-    ensures reads { result ≡ Status.ReadFault → (image input_bytes : List ℕ) → F.told files.old (word_at (F.names files.old) place) ≡ Present image → S.left input.old ≡ Some input_bytes
-        → FailedOn place (F.faults files.old) (F.faults files.new) (F.at files.new) (F.since files.new) ⊎ ReadsInput command image input_bytes }
+    ensures no_usage { result ≢ Status.Usage }
+    ensures absent { F.told files.old (word_at (F.names files.old) place) ≡ Absent → result ≡ Status.ReadFault }
+    ensures read { ReadCause command place (call F.Files S.Source O.Sink E.Sink files.old files.new input.old input.new out.old out.new err.old err.new) result }
     ensures write { result ≡ Status.WriteFault → Rose (O.faults out.old) (O.faults out.new) ⊎ Rose (E.faults err.old) (E.faults err.new) }
-    ensures later_files { F.faults files.old ≤ F.faults files.new }
-    ensures later_input { S.faults input.old ≤ S.faults input.new }
-    ensures later_out { O.faults out.old ≤ O.faults out.new }
-    ensures later_err { E.faults err.old ≤ E.faults err.new }
 {
     let loaded = match load_image(alloc, files, place) {
         Ok(loaded) => loaded,
@@ -132,7 +116,10 @@ fn do_command<F: Files, S: Source, O: Sink, E: Sink>(
     }
 }
 
-/// Does what the words say.
+/// Does what the words say, which are the words after the program's name.
+///
+/// It ends as `CallEnds` says: by the state that the run of the image reaches, or by the image's first fault. Why it has its
+/// status, `HasCause` says. What the file or the input decides is promised where their bytes are known.
 pub fn cape<F: Files, S: Source, O: Sink, E: Sink>(
     alloc: Global,
     words: &[String],
@@ -145,33 +132,8 @@ pub fn cape<F: Files, S: Source, O: Sink, E: Sink>(
     requires words { F.names files.old ≡ map string_bytes words.now }
     requires closed { F.is_open files.old ≡ false }
     requires none { kept.old ≡ None }
-
-    // A command ends as the image and the input say.
-    ensures ends { IsEnded result → (command : Command) (image input_bytes : List ℕ) → command_in (map string_bytes words.now) ≡ Some command → F.told files.old (word_at (map string_bytes words.now) 1) ≡ Present image → S.left input.old ≡ Some input_bytes
-        → EndsBy (ending command image input_bytes) result kept.new (S.left input.new) (O.held out.old) (O.held out.new) (E.held err.old) (E.held err.new) }
-
-    // Each status has its cause. At a fault of reading the image's file failed, and nothing was put; or the input failed in
-    // a run, at one of its steps that reads.
-    ensures of_run { IsOfRun result → IsSomeAnd (command_in (map string_bytes words.now)) IsRun }
-    ensures of_check { result ≡ Status.Done → command_in (map string_bytes words.now) ≡ Some Command.Check }
-    ensures of_image { IsRefused result → IsSome (command_in (map string_bytes words.now)) }
-    ensures usage { result ≡ Status.Usage → command_in (map string_bytes words.now) ≡ None }
-    ensures no_command { command_in (map string_bytes words.now) ≡ None → (result ≡ Status.Usage) ⊎ (result ≡ Status.WriteFault) }
-    ensures usage_text { result ≡ Status.Usage → Appends (O.held out.old) (O.held out.new) [] × Appends (E.held err.old) (E.held err.new) usage_line }
-    ensures read { result ≡ Status.ReadFault → (FailedOn 1 (F.faults files.old) (F.faults files.new) (F.at files.new) (F.since files.new) × (Appends (O.held out.old) (O.held out.new) [] × Appends (E.held err.old) (E.held err.new) [])) ⊎ (Rose (S.faults input.old) (S.faults input.new) × IsSomeAnd (command_in (map string_bytes words.now)) IsRun) }
-    ensures reads { result ≡ Status.ReadFault → (command : Command) (image input_bytes : List ℕ) → command_in (map string_bytes words.now) ≡ Some command → F.told files.old (word_at (map string_bytes words.now) 1) ≡ Present image → S.left input.old ≡ Some input_bytes
-        → FailedOn 1 (F.faults files.old) (F.faults files.new) (F.at files.new) (F.since files.new) ⊎ ReadsInput command image input_bytes }
-    ensures read_of { result ≡ Status.ReadFault → IsSome (command_in (map string_bytes words.now)) }
-    ensures write { result ≡ Status.WriteFault → Rose (O.faults out.old) (O.faults out.new) ⊎ Rose (E.faults err.old) (E.faults err.new) }
-
-    // With no fault counted a command of the grammar ends.
-    ensures complete { IsSome (command_in (map string_bytes words.now)) → (Rose (F.faults files.old) (F.faults files.new) → ⊥) → (Rose (S.faults input.old) (S.faults input.new) → ⊥) → (Rose (O.faults out.old) (O.faults out.new) → ⊥) → (Rose (E.faults err.old) (E.faults err.new) → ⊥) → IsEnded result ⊎ (result ≡ Status.NoMemory) }
-
-    // What stands where the command failed.
-    ensures fronts { IsFault result → (command : Command) (image input_bytes : List ℕ) → command_in (map string_bytes words.now) ≡ Some command → F.told files.old (word_at (map string_bytes words.now) 1) ≡ Present image → S.left input.old ≡ Some input_bytes
-        → FaultsBefore (ending command image input_bytes) (O.held out.old) (O.held out.new) (E.held err.old) (E.held err.new) }
-    ensures nothing { result ≡ Status.NoMemory → Appends (O.held out.old) (O.held out.new) [] × Appends (E.held err.old) (E.held err.new) [] }
-    ensures kept { KeepsMachine result ⊎ (kept.new ≡ None) }
+    ensures ends { CallEnds (words_of words.now) (call F.Files S.Source O.Sink E.Sink files.old files.new input.old input.new out.old out.new err.old err.new) result kept.new }
+    ensures cause { HasCause (words_of words.now) (call F.Files S.Source O.Sink E.Sink files.old files.new input.old input.new out.old out.new err.old err.new) result }
 {
     let command = match command_of(words) {
         Some(command) => command,

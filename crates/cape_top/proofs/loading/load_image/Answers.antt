@@ -1,10 +1,9 @@
-use Rattle.std.proofs.Common.{sym, ◌∙◌}
-use Rattle.cape_top.proofs.ReadLemmas.{fault_read, loaded_read}
+use Rattle.cape_top.proofs.ReadLemmas.{loaded_of, fault_of, stop_of}
 use Rattle.cape_top.proofs.loading.load_image.Goals as goal
 
 pub returns-in-Ok-clause-loaded : goal.returns-in-Ok-clause-loaded
-returns-in-Ok-clause-loaded g c = λ image told.
-    loaded_read image c.in_ok-image.image.items c.in-Ok.loaded (c.in_ok-image.ensures.read image told)
+returns-in-Ok-clause-loaded g c =
+    loaded_of _ c.in_ok-image.image.items c.in-Ok.loaded c.in_ok-image.ensures.read
     record {
       sound = rw (← c.deref.ensures.value) c.in-Ok.ensures.sound;
       entry_pc = rw (← c.deref.ensures.value) c.in-Ok.ensures.entry;
@@ -14,7 +13,6 @@ returns-in-Ok-clause-loaded g c = λ image told.
     }
 
 pub returns-clause-refused : goal.returns-clause-refused
-returns-clause-refused g c = λ f is image told.
+returns-clause-refused g c = stop_of _ _ (λ f is.
     let said = c.stop_for.ensures.refused f is in
-    let same = fault_read image c.in_ok-image.image.items (c.in_ok-image.ensures.read image told) in
-    sym same ∙ rw (← c.deref.ensures.value, said.0) (c.in-Err.ensures.refused said.1)
+    fault_of _ c.in_ok-image.image.items f c.in_ok-image.ensures.read (rw (← c.deref.ensures.value, said.0) (c.in-Err.ensures.refused said.1)))

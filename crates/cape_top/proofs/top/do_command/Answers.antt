@@ -1,48 +1,37 @@
-use Rattle.std.proofs.Common.{[], inr}
+use Rattle.std.proofs.Common.{[], inr, map, refl}
+use Rattle.elf_load.specs.Layout.{span_of}
 use Rattle.machine.proofs.Carried.{appends_none}
-use Rattle.cape_top.proofs.TopLemmas.{refused_ends, start_loaded, run_ends, check_ends, front_put, front_none, ended_so, ended_run, failed_so}
+use Rattle.report_texts.specs.Layouts.{layout_text}
+use Rattle.report_texts.specs.Lines.{refused_line}
+use Rattle.cape_top.specs.declared.ending.Status.TheVariants.{Done, Refused}
+use Rattle.cape_top.specs.Views.{devices, views}
+use Rattle.cape_top.proofs.TopLemmas.{checked_if, refused_if, run_ends, run_reads, writes_err, writes_out}
 use Rattle.cape_top.proofs.top.do_command.Goals as goal
 
 pub returns-in-Err-Refused-clause-ends : goal.returns-in-Err-Refused-clause-ends
-returns-in-Err-Refused-clause-ends g c = λ ended image input told left.
-    let only = rw c.in-Err-Refused.fault-is at c.refuse.ensures.only in
-    let is = ended_so _ _ ended only in
-    let said = rw c.in-Err-Refused.fault-is at c.refuse.ensures.said in
-    rw (refused_ends c.args.command image input c.in-Err-Refused.fault (c.in-Err-Refused.ensures.refused c.in-Err-Refused.fault c.in-Err-Refused.field-0-is image told))
-    record { status_is = is; keeps = c.requires.none; told = left; gained_out = appends_none _; gained_err = said is }
-
-pub returns-in-Err-Refused-clause-fronts : goal.returns-in-Err-Refused-clause-fronts
-returns-in-Err-Refused-clause-fronts g c = λ is image input told left.
-    let front = rw c.in-Err-Refused.fault-is at c.refuse.ensures.front in
-    let only = rw c.in-Err-Refused.fault-is at c.refuse.ensures.only in
-    rw (refused_ends c.args.command image input c.in-Err-Refused.fault (c.in-Err-Refused.ensures.refused c.in-Err-Refused.fault c.in-Err-Refused.field-0-is image told))
-    record { front_out = front_none _ []; front_err = front_put _ _ _ (front (failed_so _ _ (λ never. never) is only)) }
+returns-in-Err-Refused-clause-ends g c =
+    let d = devices g.S.Source g.O.Sink g.E.Sink c.args.input.now c.args.input.now c.args.out.now c.args.out.now c.args.err.now c.refuse.new.err in
+    let fault = c.in-Err-Refused.fault in
+    let is = rw c.in-Err-Refused.field-0-is at c.in-Err-Refused.ensures.refused in
+    writes_err _ d c.refuse.result (Refused fault) _ c.requires.none [] (refused_line fault) (refused_if c.args.command _ _ fault is) refl tt refl (appends_none _)
+    (rw c.in-Err-Refused.fault-is at c.refuse.ensures.only) (rw c.in-Err-Refused.fault-is at c.refuse.ensures.said) (rw c.in-Err-Refused.fault-is at c.refuse.ensures.front)
 
 pub returns-in-Run-clause-ends : goal.returns-in-Run-clause-ends
-returns-in-Run-clause-ends g c = λ ended image input told left.
-    let from = c.in-Ok.ensures.loaded image told in
-    rw (c.in-Run.is, run_ends c.in-Run.options image input c.in-Ok.loaded from) (c.run_loaded.ensures.ends (ended_run _ ended c.run_loaded.ensures.only) input left)
+returns-in-Run-clause-ends g c =
+    let d = devices g.S.Source g.O.Sink g.E.Sink c.args.input.now c.run_loaded.new.input c.args.out.now c.run_loaded.new.out c.args.err.now c.run_loaded.new.err in
+    rw (c.in-Run.is) (run_ends c.in-Run.options _ c.in-Ok.loaded c.in-Ok.ensures.loaded d _ _ c.run_loaded.ensures.ends)
 
-pub returns-in-Run-clause-fronts : goal.returns-in-Run-clause-fronts
-returns-in-Run-clause-fronts g c = λ is image input told left.
-    let from = c.in-Ok.ensures.loaded image told in
-    rw (c.in-Run.is, run_ends c.in-Run.options image input c.in-Ok.loaded from) (c.run_loaded.ensures.fronts is input left)
+pub returns-in-Run-clause-read : goal.returns-in-Run-clause-read
+returns-in-Run-clause-read g c = λ is.
+    let v = views g.S.Source g.O.Sink g.E.Sink c.args.input.now c.args.out.now c.args.err.now in
+    rw (c.in-Run.is) (inr record {
+      rose = c.run_loaded.ensures.read is;
+      reads = run_reads c.in-Run.options _ c.in-Ok.loaded c.in-Ok.ensures.loaded v (c.run_loaded.ensures.reads is);
+    })
 
 pub returns-in-Check-clause-ends : goal.returns-in-Check-clause-ends
-returns-in-Check-clause-ends g c = λ ended image input told left.
-    let is = ended_so _ _ ended c.check_loaded.ensures.only in
-    rw (c.in-Check.is, check_ends image input c.in-Ok.loaded (c.in-Ok.ensures.loaded image told))
-    record { status_is = is; keeps = c.requires.none; told = left; gained_out = c.check_loaded.ensures.said is; gained_err = appends_none _ }
-
-pub returns-in-Check-clause-fronts : goal.returns-in-Check-clause-fronts
-returns-in-Check-clause-fronts g c = λ is image input told left.
-    rw (c.in-Check.is, check_ends image input c.in-Ok.loaded (c.in-Ok.ensures.loaded image told))
-    record { front_out = front_put _ _ _ (c.check_loaded.ensures.front (failed_so _ _ (λ never. never) is c.check_loaded.ensures.only)); front_err = front_none _ [] }
-
-pub returns-in-Err-ReadFault-clause-fronts : goal.returns-in-Err-ReadFault-clause-fronts
-returns-in-Err-ReadFault-clause-fronts g c = λ is image input told left. record { front_out = front_none _ _; front_err = front_none _ _ }
-
-pub returns-in-Run-clause-reads : goal.returns-in-Run-clause-reads
-returns-in-Run-clause-reads g c = λ is image input told left.
-    let from = c.in-Ok.ensures.loaded image told in
-    rw (c.in-Run.is) (inr (from.sound, rw (start_loaded c.in-Run.options.vlen c.in-Run.options.policy image input c.in-Ok.loaded from) (c.run_loaded.ensures.reads is input left)))
+returns-in-Check-clause-ends g c =
+    let d = devices g.S.Source g.O.Sink g.E.Sink c.args.input.now c.args.input.now c.args.out.now c.check_loaded.new.out c.args.err.now c.args.err.now in
+    let l = c.in-Ok.loaded in
+    rw (c.in-Check.is) (writes_out _ d c.check_loaded.result Done _ c.requires.none (layout_text l.entry_pc (map span_of l.regions)) [] (checked_if _ _ l c.in-Ok.ensures.loaded) refl tt refl (appends_none _)
+    c.check_loaded.ensures.only c.check_loaded.ensures.said c.check_loaded.ensures.front)

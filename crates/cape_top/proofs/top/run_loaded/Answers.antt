@@ -1,18 +1,21 @@
-use Rattle.machine.specs.Moments.{slices_after}
-use Rattle.cape_top.proofs.TopLemmas.{shows_start, memory_in}
+use Rattle.cape_top.specs.Views.{devices, views}
+use Rattle.cape_top.proofs.EndingLemmas.{loaded_ends, loaded_reads}
+use Rattle.cape_top.proofs.TopLemmas.{memory_in, shows_start}
 use Rattle.cape_top.proofs.top.run_loaded.Goals as goal
 
 pub returns-in-Ok-clause-ends : goal.returns-in-Ok-clause-ends
-unfolding slices_after
-returns-in-Ok-clause-ends g c = λ of_run input told.
-    c.run_machine.ensures.ends of_run _ _ _ (shows_start c.args.options.vlen c.args.options.policy c.args.loaded.entry_pc (memory_in c.args.loaded) input c.in-Ok.machine _ _ _ told c.in-Ok.ensures.core c.in-Ok.ensures.slices c.in-Ok.ensures.last)
-
-pub returns-in-Ok-clause-fronts : goal.returns-in-Ok-clause-fronts
-unfolding slices_after
-returns-in-Ok-clause-fronts g c = λ is input told.
-    c.run_machine.ensures.fronts is _ _ _ (shows_start c.args.options.vlen c.args.options.policy c.args.loaded.entry_pc (memory_in c.args.loaded) input c.in-Ok.machine _ _ _ told c.in-Ok.ensures.core c.in-Ok.ensures.slices c.in-Ok.ensures.last)
+returns-in-Ok-clause-ends g c =
+    let v = views g.S.Source g.O.Sink g.E.Sink c.args.input.now c.args.out.now c.args.err.now in
+    let d = devices g.S.Source g.O.Sink g.E.Sink c.args.input.now c.run_machine.new.input c.args.out.now c.run_machine.new.out c.args.err.now c.run_machine.new.err in
+    let l = c.args.loaded in
+    let o = c.args.options in
+    loaded_ends o l c.in-Ok.machine d _ _ c.run_machine.ensures.only c.run_machine.ensures.kept c.run_machine.ensures.ends
+    (λ input known. shows_start o.vlen o.policy l.entry_pc (memory_in l) input c.in-Ok.machine v known c.in-Ok.ensures.core c.in-Ok.ensures.slices c.in-Ok.ensures.last)
 
 pub returns-in-Ok-clause-reads : goal.returns-in-Ok-clause-reads
-unfolding slices_after
-returns-in-Ok-clause-reads g c = λ is input told.
-    c.run_machine.ensures.reads is _ _ _ (shows_start c.args.options.vlen c.args.options.policy c.args.loaded.entry_pc (memory_in c.args.loaded) input c.in-Ok.machine _ _ _ told c.in-Ok.ensures.core c.in-Ok.ensures.slices c.in-Ok.ensures.last)
+returns-in-Ok-clause-reads g c = λ is.
+    let v = views g.S.Source g.O.Sink g.E.Sink c.args.input.now c.args.out.now c.args.err.now in
+    let l = c.args.loaded in
+    let o = c.args.options in
+    loaded_reads o l c.in-Ok.machine v (c.run_machine.ensures.reads is)
+    (λ input known. shows_start o.vlen o.policy l.entry_pc (memory_in l) input c.in-Ok.machine v known c.in-Ok.ensures.core c.in-Ok.ensures.slices c.in-Ok.ensures.last)

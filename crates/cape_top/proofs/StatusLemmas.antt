@@ -1,0 +1,91 @@
+-- Which kinds of status exclude one another, and what a call promises by the kind of its status.
+use Rattle.std.proofs.Common.{◌≡◌, ◌⊎◌, inl, inr, Option, Some, None, refl, sym, subst, IfSome, List, [], take, drop, ℕ}
+use Rattle.std.specs.Io.KnownBytes.{Appends}
+use Rattle.std.proofs.lemmas.List.{take-append-drop}
+use Rattle.cape_io.specs.Devices.{PutsFront}
+use Rattle.machine.specs.Moments.{Held}
+use Rattle.machine.specs.Views.{GainsFront}
+use Rattle.machine.specs.declared.answers.Step.{Step}
+use Rattle.machine.specs.declared.answers.Step.TheVariants.{Ran, Exited, Trapped, Unbuilt}
+use Rattle.cape_top.specs.declared.ending.Status.{Status}
+use Rattle.cape_top.specs.declared.ending.Status.TheVariants.{Done, StepLimit, Refused, Usage, ReadFault, WriteFault, NoMemory, Exited as ExitedWith, Trapped as HasTrapped, Unbuilt as NotBuilt}
+use Rattle.cape_top.specs.Statuses.{IsEnded, IsFault, IsOfRun, KeepsMachine}
+use Rattle.cape_top.specs.Views.{Devices}
+use Rattle.cape_top.specs.Calls.{WritesNothing}
+use Rattle.cape_top.specs.Endings.{Ending, Ends, EndsBy, WritesPrefixes, kept_after, status_for}
+
+pub ended_no_fault : (s : Status) → IsEnded s → IsFault s → ⊥
+ended_no_fault ReadFault ended fault = ended
+ended_no_fault WriteFault ended fault = ended
+ended_no_fault NoMemory ended fault = ended
+ended_no_fault _ ended fault = fault
+
+-- a run's end is an end
+pub run_ended : (s : Status) → IsOfRun s → IsEnded s
+run_ended (ExitedWith c) run = tt
+run_ended HasTrapped run = tt
+run_ended StepLimit run = tt
+run_ended NotBuilt run = tt
+run_ended Done run = tt
+run_ended (Refused f) run = tt
+run_ended Usage run = tt
+run_ended ReadFault run = run
+run_ended WriteFault run = run
+run_ended NoMemory run = run
+
+-- an answer of the machine is the end of a run, and keeps the machine unless it met what is not built
+pub run_of_answer : (a : Step) → IsOfRun (status_for a)
+run_of_answer Ran = tt
+run_of_answer (Exited c) = tt
+run_of_answer (Trapped t) = tt
+run_of_answer Unbuilt = tt
+
+pub kept_or_none : (a : Step) (machine : Held) → KeepsMachine (status_for a) ⊎ (kept_after a machine ≡ None)
+kept_or_none Ran machine = inl tt
+kept_or_none (Exited c) machine = inl tt
+kept_or_none (Trapped t) machine = inl tt
+kept_or_none Unbuilt machine = inr refl
+
+pub all_of : {A : Type 0} (o : Option A) (P : A → Type 0) → ((a : A) → P a) → IfSome o P
+all_of None P all = tt
+all_of (Some a) P all = all a
+
+module _ (e : Option Ending) (d : Devices) (s : Status) (kept : Option Held)
+  where
+    -- a call that ended
+    pub ends_so : IsEnded s → KeepsMachine s ⊎ (kept ≡ None) → IfSome e (EndsBy s kept d) → Ends e d s kept
+    ends_so ended keeps by = record {
+      ended = λ again. by;
+      failed = λ fault. absurd (ended_no_fault s ended fault);
+      lacking = λ is. absurd (subst IsEnded is ended);
+      keeps_or_none = keeps;
+    }
+
+    -- a call whose device failed
+    pub ends_in_fault : IsFault s → kept ≡ None → IfSome e (WritesPrefixes d) → Ends e d s kept
+    ends_in_fault fault none prefixes = record {
+      ended = λ ended. absurd (ended_no_fault s ended fault);
+      failed = λ again. prefixes;
+      lacking = λ is. absurd (subst IsFault is fault);
+      keeps_or_none = inr none;
+    }
+
+    -- a call that lacked memory
+    pub ends_in_lack : s ≡ NoMemory → kept ≡ None → WritesNothing d → Ends e d s kept
+    ends_in_lack is none nothing = record {
+      ended = λ ended. absurd (subst IsEnded is ended);
+      failed = λ fault. absurd (subst IsFault is fault);
+      lacking = λ again. nothing;
+      keeps_or_none = inr none;
+    }
+
+-- nothing is a prefix of any text
+pub prefix_none : (first held : Option (List ℕ)) (whole : List ℕ) → Appends first held [] → GainsFront first held whole
+prefix_none first held whole nothing = ([], nothing, (whole, refl))
+
+pub prefix_put : (first held : Option (List ℕ)) (whole : List ℕ) → PutsFront first held whole → GainsFront first held whole
+prefix_put first held whole put = (take put.0 whole, put.2, (drop put.0 whole, sym (take-append-drop put.0 whole)))
+
+-- where nothing was written, each sink gained a prefix of any text
+pub nothing_prefixes : (d : Devices) → WritesNothing d → (e : Ending) → WritesPrefixes d e
+nothing_prefixes d nothing e = record { gains_out = prefix_none _ _ e.out nothing.gains_out; gains_err = prefix_none _ _ e.err nothing.gains_err }

@@ -1,0 +1,40 @@
+-- How a machine that is to run ends, by the moment that it shows.
+use Rattle.std.specs.Prelude.{ℕ, List, Option, Some, false, IfSome, option_map}
+use Rattle.elf_load.specs.declared.loaded.Loaded.{Loaded}
+use Rattle.machine.specs.Moments.{Held, Moment, moments}
+use Rattle.machine.specs.Views.{Shows}
+use Rattle.machine.specs.Opening.{memory_of}
+use Rattle.rvv_meaning.specs.Images.{start_state}
+use Rattle.rvv_meaning.specs.States.{State, run}
+use Rattle.command_words.specs.declared.words.RunOptions.{RunOptions}
+use Rattle.cape_top.specs.declared.ending.Status.{Status}
+use Rattle.cape_top.specs.Views.{DeviceViews, Devices}
+use Rattle.cape_top.specs.Endings.{Ending, Ends, ReadsWithin, ending_at, ending_from}
+
+-- The machine and the devices show this moment, of which nothing was written yet.
+abbrev pub ShowsFirst : Moment → Held → DeviceViews → Type 0
+ShowsFirst m machine v = Shows false m machine v.input.left v.out.held v.out.held v.err.held v.err.held
+
+-- how a run from a moment with these options ends
+abbrev pub moment_ending : RunOptions → Moment → Ending
+moment_ending options m = ending_at options.state (run m.state options.steps) (moments m options.steps).slices
+
+-- Whatever moment the machine and the devices show, the run from it ends as it should.
+abbrev pub MachineEnds : Held → RunOptions → Devices → Status → Option Held → Type 0
+MachineEnds machine options d status kept = (m : Moment) → ShowsFirst m machine d.old → Ends (Some (moment_ending options m)) d status kept
+
+-- Whatever moment they show, some step of the run from it reads bytes of the input.
+abbrev pub MachineReads : Held → RunOptions → DeviceViews → Type 0
+MachineReads machine options v = (m : Moment) → ShowsFirst m machine v → ReadsWithin m.state options.steps
+
+-- the opening state of what was loaded, with these options and this input
+abbrev pub loaded_start : RunOptions → Loaded → (input : List ℕ) → State
+loaded_start options l input = start_state options.vlen options.policy l.entry_pc (memory_of l.regions l.heap l.heap_end) input
+
+-- The run of what was loaded ends as it should, as far as the input is known.
+abbrev pub LoadedEnds : Loaded → RunOptions → Devices → Status → Option Held → Type 0
+LoadedEnds l options d status kept = Ends (option_map (λ input. ending_from options (loaded_start options l input)) d.old.input.left) d status kept
+
+-- Some step of it reads bytes of the input, where that is known.
+abbrev pub LoadedReads : Loaded → RunOptions → DeviceViews → Type 0
+LoadedReads l options v = IfSome v.input.left (λ input. ReadsWithin (loaded_start options l input) options.steps)
