@@ -1,1 +1,2 @@
--- Lemmas on lists and texts.
+-- Lemmas on numbers, lists and texts.
+pub mod NumberLemmas

@@ -1,13 +1,18 @@
 //! What a line of the input asks.
+ghost use Rattle.std.specs.Prelude.{◌≡◌, option_map};
+ghost use Rattle.library_probe.specs.Forms.{asked_by, place_by, question_by, texts_of, view_of};
+
+use crate::numbers::{byte_of, decimal_of, hexadecimal_of};
 use crate::words::Question;
 use micro_ir::Place;
-use std::str::SplitWhitespace;
 
-// The base of hexadecimal numbers.
-const HEXADECIMAL: u32 = 16;
+// The first words of lines.
+const KIND: &str = "kind";
+
+const WORD: &str = "word";
 
 /// What a line asks.
-#[derive(Drop)]
+#[derive(Clone, Copy)]
 pub(crate) enum Asked<'a> {
     /// The list of a kind: its name, the width of the elements, and the rows.
     Kind {
@@ -19,47 +24,50 @@ pub(crate) enum Asked<'a> {
     Word(Question),
 }
 
-/// What a line asks, or `None` where it has another form.
-pub(crate) fn asked_in(line: &str) -> Option<Asked<'_>> {
-    let mut parts = line.split_whitespace();
-    match parts.next()? {
-        "kind" => kind_in(&mut parts),
-        "word" => word_in(&mut parts),
-        _ => None,
-    }
-}
-
-/// A name, a width, and the rows of a place.
-fn kind_in<'a>(parts: &mut SplitWhitespace<'a>) -> Option<Asked<'a>> {
-    let name = parts.next()?;
-    let width = parts.next()?;
-    let a = parts.next()?.parse().ok()?;
-    let b = parts.next()?.parse().ok()?;
-    let to = parts.next()?.parse().ok()?;
-    let at = Place {
+// The place of the rows of two operands and of a result, where these are all the words.
+fn place_in(words: &[&str]) -> Option<Place>
+    ensures { result ≡ place_by (texts_of words.now) }
+{
+    let [a, b, to] = words else {
+        return None;
+    };
+    let (a, b, to) = (byte_of(a)?, byte_of(b)?, byte_of(to)?);
+    Some(Place {
         a,
         b,
         addend: to,
         to,
         sub: false,
         mode: 0,
-    };
-    parts
-        .next()
-        .is_none()
-        .then_some(Asked::Kind { name, width, at })
+    })
 }
 
-/// A word, the bits of a vector type, a first element, and the bits of a vector register.
-fn word_in<'a>(parts: &mut SplitWhitespace<'a>) -> Option<Asked<'a>> {
-    let word = u32::from_str_radix(parts.next()?, HEXADECIMAL).ok()?;
-    let vtype = u32::from_str_radix(parts.next()?, HEXADECIMAL).ok()?;
-    let vstart = parts.next()?.parse().ok()?;
-    let vlen = parts.next()?.parse().ok()?;
-    parts.next().is_none().then_some(Asked::Word(Question {
-        word,
-        vtype,
-        vstart,
-        vlen,
-    }))
+// A question on a vector word, where these are all the words.
+fn question_in(words: &[&str]) -> Option<Question>
+    ensures { result ≡ question_by (texts_of words.now) }
+{
+    let [word, vtype, vstart, vlen] = words else {
+        return None;
+    };
+    Some(Question {
+        word: hexadecimal_of(word)?,
+        vtype: hexadecimal_of(vtype)?,
+        vstart: decimal_of(vstart)?,
+        vlen: decimal_of(vlen)?,
+    })
+}
+
+/// What the words of a line ask, or `None` where they have another form.
+pub(crate) fn asked_in<'a>(words: &[&'a str]) -> Option<Asked<'a>>
+    ensures { option_map view_of result ≡ asked_by (texts_of words.now) }
+{
+    match words {
+        [first, name, width, rows @ ..] if *first == KIND => Some(Asked::Kind {
+            name,
+            width,
+            at: place_in(rows)?,
+        }),
+        [first, rest @ ..] if *first == WORD => Some(Asked::Word(question_in(rest)?)),
+        _ => None,
+    }
 }

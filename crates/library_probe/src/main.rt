@@ -14,6 +14,7 @@
 mod kinds;
 mod lines;
 mod lists;
+mod numbers;
 mod told;
 mod words;
 
@@ -28,7 +29,8 @@ fn main(rt: HostRuntime) -> io::Result<()> {
     let mut out = BufWriter::new(alloc, rt.stdout())?;
     for line in BufReader::new(alloc, rt.stdin())?.lines(alloc) {
         let line = line?;
-        match asked_in(line.as_str()) {
+        let words: Vec<&str> = line.as_str().split_whitespace().collect(alloc)?;
+        match asked_in(&words) {
             Some(Asked::Kind { name, width, at }) => {
                 out.write_all(told_of(alloc, name, width, &at)?.as_bytes())?;
             }
