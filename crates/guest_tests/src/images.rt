@@ -1,25 +1,13 @@
 // A small image that loads, and an edit of it for each fault.
 use bitflags::Flags;
 use elf_load::{LoadFault, load};
+use guest_images::{SEGMENT, image_of};
 use std::alloc::{AllocError as NoMemory, Global};
 use std::test::Fail;
 
-// The header of an image of one program header.
-const HEADER: [u8; 52] = [
-    0x7f, 0x45, 0x4c, 0x46, 1, 1, 1, 0, 0, 0, 0, 0, 0, 0, 0, 0, 2, 0, 243, 0, 1, 0, 0, 0, 0x54, 0,
-    1, 0, 52, 0, 0, 0, 0, 0, 0, 0, 0, 0, 0, 0, 52, 0, 32, 0, 1, 0, 0, 0, 0, 0, 0, 0,
-];
-
-// The program header of a segment that is the whole file at 00010000, to read and to execute.
-const PROGRAM_HEADER: [u8; 32] = [
-    1, 0, 0, 0, 0, 0, 0, 0, 0, 0, 1, 0, 0, 0, 1, 0, 108, 0, 0, 0, 108, 0, 0, 0, 5, 0, 0, 0, 0,
-    0x10, 0, 0,
-];
-
 // Six words.
-const CODE: [u8; 24] = [
-    0x13, 0x05, 0x70, 0x00, 0x57, 0x70, 0x02, 0xcd, 0xd7, 0x40, 0x05, 0x5e, 0x57, 0x81, 0x10, 0x2e,
-    0x93, 0x08, 0xd0, 0x05, 0x73, 0x00, 0x00, 0x00,
+const WORDS: [u32; 6] = [
+    0x00700513, 0xcd027057, 0x5e0540d7, 0x2e108157, 0x05d00893, 0x00000073,
 ];
 
 // Bytes that are written into an image from a place on.
@@ -62,8 +50,8 @@ const ROWS: [Row; 24] = [
         LoadFault::SegmentWraps,
     ),
     Row(
-        140,
-        &[(44, &[2]), (84, &PROGRAM_HEADER), (116, &CODE)],
+        116,
+        &[(44, &[2]), (84, &SEGMENT), (104, &[108])],
         LoadFault::Overlap,
     ),
     Row(
@@ -111,13 +99,6 @@ const RANGES: [Range; 3] = [
     },
 ];
 
-fn image(alloc: Global) -> Result<Vec<u8>, NoMemory> {
-    let mut image = Vec::from_slice(alloc, &HEADER)?;
-    image.extend_from_slice(&PROGRAM_HEADER)?;
-    image.extend_from_slice(&CODE)?;
-    Ok(image)
-}
-
 // Writes bytes from a place on.
 fn overwrite(image: &mut Vec<u8>, place: usize, bytes: &[u8]) {
     for (at, byte) in image.iter_mut().skip(place).zip(bytes) {
@@ -126,7 +107,7 @@ fn overwrite(image: &mut Vec<u8>, place: usize, bytes: &[u8]) {
 }
 
 fn edited(alloc: Global, row: &Row) -> Result<Vec<u8>, NoMemory> {
-    let mut image = image(alloc)?;
+    let mut image = image_of(alloc, WORDS.as_slice())?;
     image.resize(row.0, 0)?;
     for (place, bytes) in row.1 {
         overwrite(&mut image, *place, bytes);
@@ -141,7 +122,7 @@ fn has_fault(alloc: Global, row: &Row) -> Result<bool, NoMemory> {
 
 // Whether the image loads, with its entry, its heap and as many regions as there are rows, among them this one.
 fn lays_out(alloc: Global, range: &Range) -> Result<bool, NoMemory> {
-    let image = image(alloc)?;
+    let image = image_of(alloc, WORDS.as_slice())?;
     let Ok(loaded) = load(alloc, &image) else {
         return Ok(false);
     };

@@ -3,19 +3,12 @@ use crate::chains::{Cost, cost_in};
 use crate::lists::are_listed;
 use cape_io::{MemSink, MemSource};
 use elf_load::load;
+use guest_images::image_of;
 use guest_mem::Trap;
 use machine::{Machine, Step};
 use rvv_meaning::Policy;
 use std::alloc::Global;
 use std::test::Fail;
-
-// The header of an image of six words, which is one segment from 0x10000 on, to read and to execute. The words begin at
-// 0x10054.
-const HEADER: [u8; 84] = [
-    0x7f, 0x45, 0x4c, 0x46, 1, 1, 1, 0, 0, 0, 0, 0, 0, 0, 0, 0, 2, 0, 0xf3, 0, 1, 0, 0, 0, 0x54, 0,
-    1, 0, 0x34, 0, 0, 0, 0, 0, 0, 0, 0, 0, 0, 0, 0x34, 0, 0x20, 0, 1, 0, 0, 0, 0, 0, 0, 0, 1, 0, 0,
-    0, 0, 0, 0, 0, 0, 0, 1, 0, 0, 0, 1, 0, 0x6c, 0, 0, 0, 0x6c, 0, 0, 0, 5, 0, 0, 0, 0, 0x10, 0, 0,
-];
 
 // addi x10, x0, 7; vsetivli x0, 4, e32, m1, ta, ma; vmv.v.x v1, x10; vxor.vv v2, v1, v1; addi x17, x0, 93; ecall
 const SPLAT: [u32; 6] = [
@@ -75,19 +68,10 @@ struct Ran {
     devices: Devices,
 }
 
-// The bytes of an image of the words.
-fn image_of(alloc: Global, words: &[u32; 6]) -> Result<Vec<u8>, Fail> {
-    let mut image = Vec::from_slice(alloc, HEADER.as_slice())?;
-    for word in words {
-        image.extend_from_slice(word.to_le_bytes().as_slice())?;
-    }
-    Ok(image)
-}
-
 // A machine that is to run the words.
 #[tactic(auto, unfolding(vtype_cfg::specs::Settings::is_legal_vlen, vtype_cfg::specs::Settings::legal_vlens))]
 fn machine_of(alloc: Global, words: &[u32; 6]) -> Result<Machine, Fail> {
-    let image = image_of(alloc, words)?;
+    let image = image_of(alloc, words.as_slice())?;
     let loaded = load(alloc, &image).ok().ok_or("the image loads")?;
     Ok(Machine::new(alloc, loaded, VLEN, Policy::Keep)?)
 }

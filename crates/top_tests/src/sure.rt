@@ -1,17 +1,14 @@
 // A run over devices that never fail, and that do not tell what they hold.
 use cape_io::{SureFiles, SureSink, SureSource};
 use cape_top::{Status, cape};
+use guest_images::image_of;
 use std::alloc::Global;
 use std::test::Fail;
 
-// An image that exits with 7: addi x10, x0, 7; vsetivli x0, 4, e32, m1, ta, ma; vmv.v.x v1, x10; vxor.vv v2, v1, v1;
+// A guest that exits with 7: addi x10, x0, 7; vsetivli x0, 4, e32, m1, ta, ma; vmv.v.x v1, x10; vxor.vv v2, v1, v1;
 // addi x17, x0, 93; ecall
-const SPLAT: [u8; 108] = [
-    0x7f, 0x45, 0x4c, 0x46, 1, 1, 1, 0, 0, 0, 0, 0, 0, 0, 0, 0, 2, 0, 0xf3, 0, 1, 0, 0, 0, 0x54, 0,
-    1, 0, 0x34, 0, 0, 0, 0, 0, 0, 0, 0, 0, 0, 0, 0x34, 0, 0x20, 0, 1, 0, 0, 0, 0, 0, 0, 0, 1, 0, 0,
-    0, 0, 0, 0, 0, 0, 0, 1, 0, 0, 0, 1, 0, 0x6c, 0, 0, 0, 0x6c, 0, 0, 0, 5, 0, 0, 0, 0, 0x10, 0, 0,
-    0x13, 0x05, 0x70, 0x00, 0x57, 0x70, 0x02, 0xcd, 0xd7, 0x40, 0x05, 0x5e, 0x57, 0x81, 0x10, 0x2e,
-    0x93, 0x08, 0xd0, 0x05, 0x73, 0, 0, 0,
+const SPLAT: [u32; 6] = [
+    0x00700513, 0xcd027057, 0x5e0540d7, 0x2e108157, 0x05d00893, 0x00000073,
 ];
 
 // The length of `cape: exited 7 after 6` and its end.
@@ -24,7 +21,8 @@ fn exits_with_seven(alloc: Global) -> Result<bool, Fail> {
         String::from_str(alloc, "A")?,
     ];
     let mut files = SureFiles::new(alloc, words.as_slice());
-    files.add(alloc, "A", SPLAT.as_slice())?;
+    let image = image_of(alloc, SPLAT.as_slice())?;
+    files.add(alloc, "A", &image)?;
     let mut input = SureSource::new(alloc, &[], 1)?;
     let mut out = SureSink::new();
     let mut err = SureSink::new();
