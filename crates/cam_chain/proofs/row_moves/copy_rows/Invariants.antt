@@ -1,5 +1,5 @@
 use Rattle.std.proofs.Common.{◌≡◌, ℕ, ◌<◌, ◌≤◌, [], length, get_or}
-use Rattle.cam_chain.proofs.chain.copy_rows.Given as goal
+use Rattle.cam_chain.proofs.row_moves.copy_rows.Given as goal
 
 abbrev pub invariant-loop-i : goal.invariant-loop-i
 invariant-loop-i l =

@@ -1,6 +1,6 @@
 use Rattle.std.proofs.Common.{[], arith, ◌∙◌}
 use Rattle.std.proofs.lemmas.List.{ext_get_or}
-use Rattle.cam_chain.proofs.chain.copy_rows.Goals as goal
+use Rattle.cam_chain.proofs.row_moves.copy_rows.Goals as goal
 
 pub returns : goal.returns
 returns c =
