@@ -5,4 +5,6 @@ pub mod InPage
 pub mod Loads
 pub mod Storing
 pub mod Writing
+pub mod Meeting
+pub mod Laying
 pub mod Opening

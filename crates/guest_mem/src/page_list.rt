@@ -3,12 +3,13 @@ ghost use Rattle.std.specs.Prelude.{◌≡◌, ◌==◌, ◌+◌, ◌<◌, ◌�
 ghost use Rattle.std.specs.Borrow.{sem, LendsIf};
 ghost use Rattle.std.specs.FinMap as map;
 ghost use Rattle.std.specs.Option.{option_copied, option_copied_mut};
-ghost use Rattle.guest_mem.specs.Opening.{laid, opened};
-ghost use Rattle.guest_mem.specs.Pages.{allows, granted, joined, page_size, perms_at, place_of, written};
+ghost use Rattle.guest_mem.specs.Laying.{granted, laid};
+ghost use Rattle.guest_mem.specs.Opening.{opened};
+ghost use Rattle.guest_mem.specs.Pages.{allows, joined, page_size, perms_at, place_of, written};
 ghost use Rattle.guest_mem.specs.contracts.page_list.PageList.{the_row as list_row};
 ghost use Rattle.guest_mem.specs.contracts.stored_page.StoredPage.{the_row as page_row};
 
-use crate::addresses::{page_number, pages_met, place, room};
+use crate::addresses::{page_number, place, room};
 use crate::permissions::Perms;
 use crate::regions::Region;
 use crate::stored_page::StoredPage;
@@ -130,9 +131,9 @@ impl PageList {
     fn lay(&mut self, region: &Region) -> Result<(), NoMemory>
         ensures { OnOk result (self.new ≡ laid self.old region.now) }
     {
-        let count = pages_met(region.start, region.len);
-        self.grant_each(page_number(region.start), count, region.perms)?;
-        self.copy_in(region.start, region.bytes.as_slice());
+        let span = region.span();
+        self.grant_each(span.first_page(), span.page_count(), region.perms)?;
+        self.copy_in(region.start, region.bytes_inside());
         Ok(())
     }
 
