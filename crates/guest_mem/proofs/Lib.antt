@@ -1,4 +1,5 @@
 -- Lemmas on pages.
+pub mod Rising
 pub mod Finding
 pub mod Ranges
 pub mod InPage

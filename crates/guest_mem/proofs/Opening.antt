@@ -2,7 +2,6 @@
 use Rattle.std.proofs.Common.{◌≡◌, ℕ, zero, suc, ◌+◌, ◌-◌, ◌*◌, ◌^◌, ◌<◌, ◌≤◌, min, Bool, true, false, cond, bit_or, ◌||◌, List, [], ◌∷◌, ◌++◌, map, fold, take, length, get_or, Option, Some, None, refl, sym, ap, ◌∙◌, arith, ⊎_elim}
 use Rattle.std.specs.Prelude.{nat_lt, slice_get, unwrap_or}
 use Rattle.std.specs.Int.Bits.{or_zero_l}
-use Rattle.std.specs.List.{range_with_len}
 use Rattle.std.specs.FinMap as fin
 use Rattle.std.proofs.lemmas.Cmp.{nat_cmp_total}
 use Rattle.std.proofs.lemmas.Bool.{cases_Bool, cases_eq, cases_lt, or_parts, both_ways, eq-eqb, ne_eqb, ltb-false}
@@ -10,7 +9,7 @@ use Rattle.std.proofs.lemmas.List.{length-take, length-replicate, get_or-replica
 use Rattle.std.proofs.lemmas.List.FromFn.{fill_by_all, length-map-range_with_len, get_or-map-range_with_len}
 use Rattle.std.proofs.lemmas.List.Sums.{fold_push}
 use Rattle.std.proofs.lemmas.Option.{slice_get_past}
-use Rattle.guest_mem.specs.Pages.{Page, Pages, joined, written}
+use Rattle.guest_mem.specs.Pages.{Page, Pages, joined}
 use Rattle.guest_mem.specs.Spans.{first_page, last_page, page_count_of, meets, is_mapped, page_perms, page_numbers, span_of}
 use Rattle.guest_mem.specs.Opening.{bytes_of, byte_from, byte_of, listed, page_held, page_opened, pages_given, with_given, opened}
 use Rattle.guest_mem.specs.Laying.{granted, laid}
@@ -18,7 +17,7 @@ use Rattle.guest_mem.specs.declared.spans.Span.{Span}
 use Rattle.guest_mem.specs.declared.regions.Region.{Region}
 use Rattle.guest_mem.proofs.Meeting.{IsMet, IsMet-from_meets, meets-from_IsMet, is_mapped-push, page_perms-push, page_perms-unmapped}
 use Rattle.guest_mem.proofs.Writing.{get-here}
-use Rattle.guest_mem.proofs.Laying.{insert-other, granted-before, granted-past, granted-within, Holds, holds-same, byte_after, written-unmapped, written-holds}
+use Rattle.guest_mem.proofs.Laying.{insert-other, granted-before, granted-past, granted-within, Holds, byte_after, written-unmapped, written-holds}
 
 -- ---- the pages that a function gives
 

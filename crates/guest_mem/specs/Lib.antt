@@ -1,5 +1,6 @@
 -- Guest memory: pages by their numbers, permissions, the memory of a list of regions, and the break.
 pub mod Pages
+pub mod Indexes
 pub mod Ranges
 pub mod Spans
 pub mod Opening

@@ -1,7 +1,7 @@
 -- Ranges of addresses: the pages that they meet, and the permissions that a page gets of them.
-use Rattle.std.specs.Prelude.{ℕ, ◌+◌, ◌-◌, ◌/◌, ◌^◌, ◌==◌, ◌&&◌, nat_lt, nat_le, min, bit_or, if◌then◌else◌, Bool, List, [], ◌∷◌}
+use Rattle.std.specs.Prelude.{ℕ, ◌+◌, ◌-◌, ◌^◌, ◌==◌, ◌&&◌, nat_lt, nat_le, min, bit_or, if◌then◌else◌, Bool, List, [], ◌∷◌}
 use Rattle.std.specs.List.{list_any}
-use Rattle.guest_mem.specs.Pages.{page_size, page_of}
+use Rattle.guest_mem.specs.Pages.{page_of}
 use Rattle.guest_mem.specs.declared.spans.Span.{Span}
 use Rattle.guest_mem.specs.declared.regions.Region.{Region}
 

@@ -7,6 +7,7 @@ mod page_list;
 mod pages;
 mod permissions;
 mod regions;
+mod searching;
 mod spans;
 mod stored_page;
 

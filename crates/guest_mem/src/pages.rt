@@ -227,7 +227,7 @@ impl Mem {
             return Ok(false);
         }
         self.pages
-            .grant(page_number(address), Perms::READ.union(Perms::WRITE))?;
+            .grant(alloc, page_number(address), Perms::READ.union(Perms::WRITE))?;
         Ok(true)
     }
 

@@ -1,4 +1,4 @@
-use Rattle.std.proofs.Common.{◌∙◌, sym, refl}
+use Rattle.std.proofs.Common.{◌∙◌, sym}
 use Rattle.guest_mem.proofs.Opening.{opened-none, opened-more, opened-all}
 use Rattle.guest_mem.proofs.page_list.PageList.of_regions.Goals as goal
 
