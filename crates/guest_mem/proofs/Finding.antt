@@ -1,16 +1,16 @@
 -- A list of numbers with the pages beside them, as the map of pages that it holds.
-use Rattle.std.proofs.Common.{◌≡◌, ◌≢◌, ◌≤◌, ℕ, zero, suc, ◌<◌, true, false, cond, List, [], ◌∷◌, length, get_or, map, Option, Some, None, refl, sym, ap, ◌∙◌, arith, ⊎_elim}
-use Rattle.std.specs.Prelude.{nat_eq, slice_get, slice_set, insert}
+use Rattle.std.proofs.Common.{◌≡◌, ◌≢◌, ◌≤◌, ◌↔◌, ℕ, zero, suc, ◌<◌, true, false, cond, List, [], ◌∷◌, length, get_or, map, Option, Some, None, refl, sym, ap, ◌∙◌, arith, ⊎_elim}
+use Rattle.std.specs.Prelude.{nat_eq, slice_get, slice_set, insert, Contains, IsSome}
 use Rattle.std.specs.Ordering.{nat_cmp, eq_by_cmp}
 use Rattle.std.specs.List.{zip}
 use Rattle.std.specs.List.Sorted.{IsStrictlyIncreasing}
 use Rattle.std.specs.FinMap as fin
 use Rattle.std.proofs.lemmas.Cmp.{nat_cmp_total}
-use Rattle.std.proofs.lemmas.Bool.{cases_Bool, eq-eqb, ne_eqb}
+use Rattle.std.proofs.lemmas.Bool.{cases_Bool, cases_eq, eq-eqb, ne_eqb}
 use Rattle.std.proofs.lemmas.Bool.Decides.{nat_tests}
 use Rattle.std.proofs.lemmas.List.{length-map, get_or-map, map-set}
 use Rattle.std.proofs.lemmas.List.Edits.{length-insert}
-use Rattle.std.proofs.lemmas.Option.{slice_get_within, get_or_from_slice_get}
+use Rattle.std.proofs.lemmas.Option.{slice_get_within, slice_get-get_or, get_or_from_slice_get}
 use Rattle.guest_mem.specs.Pages.{Page, Pages}
 use Rattle.guest_mem.specs.Indexes.{IsIndex}
 use Rattle.guest_mem.proofs.Rising.{rising-apart, rising-insert, found-at}
@@ -197,3 +197,34 @@ boxed-index value numbers boxes n at b index inside below above none =
       let ne : get_or numbers at 0 ≢ n = apart in
       omega (arith, up, ne));
     }
+
+-- ---- the numbers of the pages
+
+contains-found : (numbers : List ℕ) (pages : List Page) (n : ℕ) → length numbers ≡ length pages → (p : Page) → seek numbers pages n ≡ Some p → Contains numbers n
+contains-found [] pages n same p is = let none = sym (seek-none pages n) ∙ is in (cc)
+contains-found (m ∷ numbers) [] n same p is = absurd (omega (arith, same))
+contains-found (m ∷ numbers) (q ∷ pages) n same p is =
+    ⊎_elim
+    (λ (here : m ≡ n). (0, omega arith, here))
+    (λ (other : m ≡ n → ⊥).
+    let e : nat_eq m n ≡ false = ne_eqb m n other in
+    let rest = contains-found numbers pages n (omega (arith, same)) p (rw e at (sym (seek-cons m q numbers pages n) ∙ is)) in
+    (suc rest.0, omega (arith, rest.1), rest.2))
+    (cases_eq m n)
+
+contains-some : (numbers : List ℕ) (pages : List Page) (n : ℕ) → length numbers ≡ length pages → (o : Option Page) → seek numbers pages n ≡ o → IsSome o → Contains numbers n
+contains-some numbers pages n same None is some = (cc)
+contains-some numbers pages n same (Some p) is some = contains-found numbers pages n same p is
+
+-- they are the numbers that are mapped
+pub contains-mapped : (numbers : List ℕ) (pages : List Page) (n : ℕ) → IsIndex numbers pages → Contains numbers n ↔ IsSome (fin.get (mapped numbers pages) n)
+unfolding seek
+contains-mapped numbers pages n index =
+    (
+      λ (here : Contains numbers n).
+      let blank : Page = record { perms = 0; bytes = [] } in
+      let at : slice_get numbers here.0 ≡ Some n = slice_get-get_or numbers here.0 n here.1 ∙ ap Some here.2 in
+      let some : seek numbers pages n ≡ Some (get_or pages here.0 blank) = found numbers pages n here.0 blank index.same (first numbers n here.0 index.rising at) in
+      rw some refl,
+      λ (some : IsSome (seek numbers pages n)). contains-some numbers pages n index.same (seek numbers pages n) refl some,
+    )

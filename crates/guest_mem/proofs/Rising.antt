@@ -38,29 +38,22 @@ above-middle xs middle n rising more k from inside =
 
 pub ruleset halving_steps = (below-middle, above-middle)
 
--- a number that stands where none is below it and all before are, and one that does not stand there
+-- a number that stands at a place, and one that does not stand where it would have to
 pub found-at : (xs : List ℕ) (at n : ℕ) → at < length xs → get_or xs at 0 ≡ n → slice_get xs at ≡ Some n
 found-at xs at n inside is = slice_get-get_or xs at 0 inside ∙ ap Some is
 
-pub nowhere-past : (xs : List ℕ) (at n : ℕ) → length xs ≤ at → ((k : ℕ) → k < at → get_or xs k 0 < n) → (k : ℕ) → slice_get xs k ≢ Some n
-nowhere-past xs at n past below k is =
-    let inside = slice_get_within xs k n is in
-    let same : get_or xs k 0 ≡ n = get_or_from_slice_get xs k n 0 is in
-    let less = below k (omega arith) in
-    omega (arith, less, same)
-
-pub nowhere-at : (xs : List ℕ) (at n : ℕ) → IsStrictlyIncreasing xs → at < length xs → (get_or xs at 0 ≡ n → ⊥) → ((k : ℕ) → k < at → get_or xs k 0 < n)
+pub nowhere : (xs : List ℕ) (at n : ℕ) → IsStrictlyIncreasing xs → (slice_get xs at ≡ Some n → ⊥) → ((k : ℕ) → k < at → get_or xs k 0 < n)
     → ((k : ℕ) → at ≤ k → k < length xs → n ≤ get_or xs k 0) → (k : ℕ) → slice_get xs k ≢ Some n
-nowhere-at xs at n rising inside other below above k is =
+nowhere xs at n rising other below above k is =
     let within = slice_get_within xs k n is in
     let same : get_or xs k 0 ≡ n = get_or_from_slice_get xs k n 0 is in
     ⊎_elim
     (λ (less : k < at). let l = below k less in let none : ⊥ = omega (arith, l, same) in none)
     (λ (from : at ≤ k).
     ⊎_elim
-    (λ (here : at ≡ k). other (rw here same))
+    (λ (here : at ≡ k). other (rw here is))
     (λ (apart : at ≡ k → ⊥).
-    let first = above at (omega arith) inside in
+    let first = above at (omega arith) (omega arith) in
     let up = rising-apart xs at k rising (omega arith) within in
     let none : ⊥ = omega (arith, first, up, same) in
     none)

@@ -1,7 +1,8 @@
 // The pages that are mapped, in rising order of their numbers.
-ghost use Rattle.std.specs.Prelude.{◌≡◌, ◌+◌, ◌<◌, ◌≤◌, ◌^◌, None, IfOk, OnOk, OnErr, length, if◌then◌else◌};
+ghost use Rattle.std.specs.Prelude.{◌≡◌, ℕ, ◌+◌, ◌<◌, ◌≤◌, ◌^◌, ◌↔◌, None, Contains, IsSome, IfOk, OnOk, OnErr, length, if◌then◌else◌};
 ghost use Rattle.std.specs.Borrow.{sem, LendsIf};
 ghost use Rattle.std.specs.FinMap as map;
+ghost use Rattle.std.specs.List.Sorted.{IsStrictlyIncreasing};
 ghost use Rattle.std.specs.Option.{option_copied, option_copied_mut};
 ghost use Rattle.guest_mem.specs.Laying.{granted, laid};
 ghost use Rattle.guest_mem.specs.Opening.{opened};
@@ -63,6 +64,14 @@ impl PageList {
             pages.lay(alloc, region)?;
         }
         Ok(pages)
+    }
+
+    // The numbers of the pages, each once, rising.
+    pub(crate) fn numbers(&self) -> &[u32]
+        ensures rising { IsStrictlyIncreasing result.now }
+        ensures mapped { (n : ℕ) → Contains result.now n ↔ IsSome (map.get self.now n) }
+    {
+        &self.numbers
     }
 
     // The page of a number.
