@@ -8,9 +8,11 @@ use Rattle.std.proofs.Math.Seq.{drop-cons}
 use Rattle.std.proofs.lemmas.Simd.{map-map}
 use Rattle.std.proofs.lemmas.List.Folds.{list_all-append, list_all-map}
 use Rattle.elf_load.specs.declared.headers.Header.{Header}
-use Rattle.elf_load.specs.declared.spans.Span.{Span}
+use Rattle.guest_mem.specs.declared.spans.Span.{Span}
 use Rattle.elf_load.specs.Headers.{segments, headers, is_segment, is_load, end_of}
-use Rattle.elf_load.specs.Layout.{page_size, stack_start, stack_end, top, heap_size, highest_end, rounded_up, start_behind, heap_start, heap_bound, heap_limit, segment_span, stack_span, heap_at, heap_span, mapped_spans, spans, apart, all_apart, none_wraps, ends_inside, bytes_fit, region_fits, region_of, segment_region, regions, span_of}
+use Rattle.guest_mem.specs.Pages.{page_size}
+use Rattle.guest_mem.specs.Spans.{span_of}
+use Rattle.elf_load.specs.Layout.{stack_start, stack_end, top, heap_size, highest_end, rounded_up, start_behind, heap_start, heap_bound, heap_limit, segment_span, stack_span, heap_at, heap_span, mapped_spans, spans, apart, all_apart, none_wraps, ends_inside, bytes_fit, region_fits, region_of, segment_region, regions}
 use Rattle.elf_load.specs.Faults.{any_wraps, any_overlap, any_over_stack, any_above_memsz, overlaps, is_over_stack}
 
 -- segments that end below the top, share no byte, and have none of the stack

@@ -4,10 +4,9 @@ ghost use Rattle.elf_load.specs.Layout.{read_write, highest_end, start_behind, h
 ghost use Rattle.elf_load.specs.Faults.{any_wraps};
 
 use crate::headers::{HEADER_LIMIT, Header};
-use crate::spans::{PAGE_SIZE, Span};
 use arrayvec::ArrayVec;
 use bitflags::Flags;
-use guest_mem::Perms;
+use guest_mem::{PAGE_SIZE, Perms, Span};
 
 /// The stack: its first address, and the first behind it.
 pub const STACK_START: u32 = 0x7ff0_0000;

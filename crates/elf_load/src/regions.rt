@@ -6,8 +6,7 @@ ghost use Rattle.elf_load.specs.Faults.{any_past_file};
 
 use crate::headers::Header;
 use crate::layout::{segment_span_of, stack};
-use crate::spans::Span;
-use guest_mem::{ByteList, Region};
+use guest_mem::{ByteList, Region, Span};
 use std::alloc::{AllocError, Global};
 
 // The bytes that the file holds of a segment. A segment without bytes may name a place behind the end of the file.

@@ -13,8 +13,8 @@ use Rattle.std.specs.Io.KnownBytes.{Appends}
 use Rattle.cape_io.specs.Devices.{PutsFront}
 use Rattle.guest_mem.specs.declared.regions.Region.{Region}
 use Rattle.bit_laws.specs.Digits.{hex_word}
-use Rattle.elf_load.specs.declared.spans.Span.{Span}
-use Rattle.elf_load.specs.Layout.{span_of, meets, is_mapped, page_perms, page_numbers}
+use Rattle.guest_mem.specs.declared.spans.Span.{Span}
+use Rattle.guest_mem.specs.Spans.{span_of, meets, is_mapped, page_perms, page_numbers}
 use Rattle.report_texts.specs.Layouts.{perms_of, same_perms, letter, line_of_run, lines_from, map_lines, IsSteady, IsRun}
 
 -- ---- digits

@@ -2,8 +2,9 @@
 use Rattle.std.specs.Prelude.{ℕ, zero, suc, ◌+◌, ◌-◌, ◌*◌, ◌/◌, ◌%◌, ◌==◌, ◌<◌, ◌≤◌, ◌≡◌, Bool, true, false, List, [], ◌∷◌, ◌++◌, codes, Option, Some, None, if◌then◌else◌}
 use Rattle.bit_laws.specs.Digits.{hex_word}
 use Rattle.rvv_meaning.specs.Texts.{newline}
-use Rattle.elf_load.specs.declared.spans.Span.{Span}
-use Rattle.elf_load.specs.Layout.{page_size, page_numbers, meets, is_mapped, page_perms}
+use Rattle.guest_mem.specs.declared.spans.Span.{Span}
+use Rattle.guest_mem.specs.Pages.{page_size}
+use Rattle.guest_mem.specs.Spans.{page_numbers, meets, is_mapped, page_perms}
 
 -- the permissions of a page, where it is mapped
 abbrev pub perms_of : List Span → ℕ → Option ℕ

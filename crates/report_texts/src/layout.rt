@@ -4,29 +4,16 @@ ghost use Rattle.std.specs.Option.{option_map};
 ghost use Rattle.std.specs.Io.KnownBytes.{Appends};
 ghost use Rattle.arrayvec.specs.ArrayString.{array_string_len};
 ghost use Rattle.cape_io.specs.Devices.{PutsFront, Rose};
-ghost use Rattle.elf_load.specs.Layout.{span_of, is_mapped, meets, page_perms, page_size, page_numbers};
+ghost use Rattle.guest_mem.specs.Pages.{page_size};
+ghost use Rattle.guest_mem.specs.Spans.{span_of, is_mapped, page_perms, page_numbers};
 ghost use Rattle.report_texts.specs.Layouts.{perms_of, same_perms, letters, entry_line, map_line, line_of_run, map_lines, layout_text, IsSteady, IsRun};
 
 use crate::text::{Line, push_hex};
 use bitflags::Flags;
 use cape_io::{Failed, Sink};
-use guest_mem::{Perms, Region};
+use guest_mem::{PAGE_SIZE, PAGES, Perms, Region};
 
-// The bytes of a page.
-const PAGE_SIZE: u32 = 4096;
-
-// How many pages there are.
-const PAGES: u32 = 1 << 20;
-
-// The first page of a region.
-fn first_page(region: &Region) -> u32
-    ensures page { result ≡ region.now.start / page_size }
-    ensures bound { result < page_numbers }
-{
-    region.start / PAGE_SIZE
-}
-
-// The page behind the last page of a region.
+// The page after the last page of a region.
 fn page_behind(region: &Region) -> u32
     ensures { result ≡ (region.now.start + region.now.len + (page_size - 1)) / page_size }
 {
@@ -34,18 +21,11 @@ fn page_behind(region: &Region) -> u32
     end.div_ceil(u64::from(PAGE_SIZE)) as u32
 }
 
-// Whether a region meets a page.
-fn meets(region: &Region, page: u32) -> bool
-    ensures { result ≡ meets page (span_of region.now) }
-{
-    region.len > 0 && first_page(region) <= page && page < page_behind(region)
-}
-
 // Whether a page is mapped.
 fn is_mapped(regions: &[Region], page: u32) -> bool
     ensures { result ≡ is_mapped (map span_of regions.now) page }
 {
-    regions.iter().any(|region| meets(region, page))
+    regions.iter().any(|region| region.span().meets(page))
 }
 
 // The permissions that a page gets of the regions that meet it: their union.
@@ -54,7 +34,7 @@ fn union_at(regions: &[Region], page: u32) -> Perms
 {
     let mut perms = Perms::from_bits_retain(0);
     for region in regions {
-        if meets(region, page) {
+        if region.span().meets(page) {
             perms.insert(region.perms);
         }
     }
@@ -79,7 +59,7 @@ fn edge_after(region: &Region, page: u32) -> u32
     ensures bound { result ≤ page_numbers }
     ensures steady { IsSteady page result (span_of region.now) }
 {
-    let first = first_page(region);
+    let first = region.span().first_page();
     let behind = page_behind(region);
     if page < first {
         first

@@ -1,6 +1,6 @@
 use Rattle.std.proofs.Common.{map}
 use Rattle.std.proofs.lemmas.Result.{on_ok_weaker, on_err_weaker}
-use Rattle.elf_load.specs.Layout.{span_of}
+use Rattle.guest_mem.specs.Spans.{span_of}
 use Rattle.report_texts.specs.Layouts.{entry_line, map_lines, layout_text}
 use Rattle.report_texts.proofs.LayoutLemmas.{appends_more, puts_front_first, puts_front_last, on_err}
 use Rattle.report_texts.proofs.layout.put_layout.Goals as goal

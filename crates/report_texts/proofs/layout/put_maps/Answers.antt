@@ -1,5 +1,5 @@
 use Rattle.std.proofs.Common.{arith, map}
-use Rattle.elf_load.specs.Layout.{span_of}
+use Rattle.guest_mem.specs.Spans.{span_of}
 use Rattle.report_texts.proofs.LayoutLemmas.{has_put_none, has_put_more, has_put_all, has_put_front, on_err}
 use Rattle.report_texts.proofs.layout.put_maps.Goals as goal
 
