@@ -29,6 +29,8 @@ pub record Shows (merged : Bool) (m : Moment) (machine : Held) (left : Option (L
   pub holds : m.state.core ≡ machine.core
   pub slices : m.slices ≡ slices_of machine.chain
   pub last : m.last ≡ machine.last
+  pub counts : m.counts ≡ machine.chain.counts
+  pub control : m.control ≡ machine.control
   pub told : left ≡ Some m.state.input
   pub gained_out : Appends first_out out (shown_out merged m.state)
   pub gained_err : Appends first_err err (shown_err merged m.state)
