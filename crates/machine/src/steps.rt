@@ -1,5 +1,5 @@
 // Steps and runs.
-ghost use Rattle.std.specs.Prelude.{◌≡◌, ◌+◌, ◌<◌, ◌≤◌, ◌^◌, ℕ, List, [], true, false, length, OnOk, OnErr, IfOk, IsErrOf};
+ghost use Rattle.std.specs.Prelude.{◌≡◌, ◌+◌, ◌<◌, ◌≤◌, ◌^◌, ℕ, List, [], true, false, length, OnOk, OnErr, IfOk, IfErr, IsErrOf};
 ghost use Rattle.std.specs.Io.KnownBytes.{Appends};
 ghost use Rattle.cape_io.specs.Devices.{PutsFront, Rose};
 ghost use Rattle.bit_laws.specs.Numbers.{low};
@@ -14,7 +14,7 @@ ghost use Rattle.guest_env.specs.Outputs.{bytes_out, bytes_err, IsFaultOf};
 ghost use Rattle.guest_env.specs.Answers.{FailsReading, FailsWriting, IsWriting};
 ghost use Rattle.machine.specs.Answers.{answer_of};
 ghost use Rattle.machine.specs.Moments.{moment_after, moments};
-ghost use Rattle.machine.specs.Views.{CallsAt, GoesBy, FaultsIn, ReadsIn};
+ghost use Rattle.machine.specs.Views.{CallsAt, GoesBy, FaultsIn, ReadsIn, AsksDevice, LeavesMemory, StandsIn};
 ghost use Rattle.machine.specs.Carrying.{Carries, Fails};
 
 use crate::answers::{DeviceFault, Step};
@@ -212,7 +212,8 @@ impl Machine {
 
         // What stands after a device fault, and its cause.
         ensures stays { OnErr result (self.new ≡ record self.old { core = record self.old.core { mem = self.new.core.mem }; last = []; live = false }) }
-        ensures calls { OnErr result (CallsAt self.old.core) }
+        ensures calls { IfErr result (λ fault. AsksDevice fault self.old.core) }
+        ensures memory { IfErr result (λ fault. LeavesMemory fault self.old.core self.new.core.mem (S.left input.old) (S.left input.new)) }
         ensures fronts { OnErr result (FaultsIn moment_after merged self.old (S.left input.old) (O.held out.old) (O.held out.new) (E.held err.old) (E.held err.new)) }
         ensures read_fault { IsErrOf result DeviceFault.ReadFault → FailsReading self.old.core.regs self.old.core.mem self.new.core.mem (S.left input.old) (S.left input.new) (S.faults input.old) (S.faults input.new) }
         ensures write_fault { IsErrOf result DeviceFault.WriteFault → FailsWriting merged self.old.core.regs self.old.core.mem self.new.core.mem (O.faults out.old) (O.faults out.new) (E.faults err.old) (E.faults err.new) }
@@ -251,6 +252,9 @@ impl Machine {
         ensures answer { IfOk result (λ answer. answer ≡ answer_of self.new.core.mode) }
 
         // What stands after a device fault, and its cause.
+        ensures not_live { OnErr result (self.new.live ≡ false) }
+        ensures no_program { OnErr result (self.new.last ≡ []) }
+        ensures stands { IfErr result (λ fault. StandsIn fault n merged self.old self.new (S.left input.old) (S.left input.new) (O.held out.old) (O.held out.new) (E.held err.old) (E.held err.new)) }
         ensures fronts { OnErr result (FaultsIn (λ m. moments m n) merged self.old (S.left input.old) (O.held out.old) (O.held out.new) (E.held err.old) (E.held err.new)) }
         ensures read_cause { IsErrOf result DeviceFault.ReadFault → Rose (S.faults input.old) (S.faults input.new) }
         ensures reads { IsErrOf result DeviceFault.ReadFault → ReadsIn n merged self.old (S.left input.old) (O.held out.old) (E.held err.old) }

@@ -1,6 +1,6 @@
 use Rattle.std.proofs.Common.{◌≡◌, ◌≤◌, ◌+◌, ◌-◌, ◌∙◌, suc, refl, arith}
 use Rattle.std.proofs.lemmas.Result.{err_from_is_err_and}
-use Rattle.machine.proofs.Runs.{runs_first, runs_step, runs_last, runs_fault, runs_done}
+use Rattle.machine.proofs.Runs.{runs_first, runs_step, runs_last, runs_fault, runs_stands, runs_done}
 use Rattle.machine.proofs.Modes.{ran_runs, others_stopped, running_runs}
 use Rattle.machine.proofs.parts.Machine.run.Goals as goal
 
@@ -10,6 +10,14 @@ returns-in_err-answer-clause-fronts g c =
     let on = rw left at c.loop-i.invariant.on in
     let p = err_from_is_err_and c.from_residual.result c.from_residual.ensures.1 in
     rw p.1 (runs_fault _ _ _ _ _ c.args.self.now _ _ (g.S.Source.left c.args.input.now) _ _ _ _ _ _ on (running_runs _ c.loop-i.invariant.running) c.in_err-answer.ensures.fronts)
+
+pub returns-in_err-answer-clause-stands : goal.returns-in_err-answer-clause-stands
+returns-in_err-answer-clause-stands g c =
+    let left : c.args.n - c.loop-i.i ≡ suc (c.args.n - (c.loop-i.i + 1)) = omega arith in
+    let on = rw left at c.loop-i.invariant.on in
+    let more : suc (c.args.n - (c.loop-i.i + 1)) ≤ c.args.n = omega arith in
+    let p = err_from_is_err_and c.from_residual.result c.from_residual.ensures.1 in
+    rw (p.1, p.2) (runs_stands _ _ _ _ _ c.args.self.now _ _ _ _ _ _ _ _ _ _ _ _ more on c.loop-i.invariant.running c.in_err-answer.ensures.stays c.in_err-answer.ensures.calls c.in_err-answer.ensures.memory c.in_err-answer.ensures.fronts)
 
 pub returns-in-Exited-clause-goes : goal.returns-in-Exited-clause-goes
 returns-in-Exited-clause-goes g c =
