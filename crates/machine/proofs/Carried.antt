@@ -56,6 +56,10 @@ gains_err-none : (merged : Bool) (c : Core) → puts c ≡ [] → gains_err merg
 gains_err-none true c none = none
 gains_err-none false c none = rw none (either_way (nat_eq (reg c 10) 2) [])
 
+-- merged, the first sink gains nothing
+pub none_merged : (merged : Bool) (c : Core) → merged ≡ true → gains_out merged c ≡ []
+none_merged merged c is = rw is refl
+
 -- a step without a call asks for nothing and puts nothing
 no_asking : (c : Core) → call_at c ≡ None → asked c ≡ 0
 unfolding asked
@@ -81,7 +85,7 @@ still i c is =
     rw (Rests.regs_rest rests is, Rests.csrs_rest rests is, Rests.mem_rests rests is) refl
 
 -- what it asks for, and what it puts
-call_asks : (i : Instr) (c : Core) → next c ≡ Perform (Scalar i) → (effect_at i c).flow ≡ Calls → asked c ≡ asked_by (named_call c.regs) c.regs c.mem
+pub call_asks : (i : Instr) (c : Core) → next c ≡ Perform (Scalar i) → (effect_at i c).flow ≡ Calls → asked c ≡ asked_by (named_call c.regs) c.regs c.mem
 unfolding asked call_at
 call_asks i c there is = rw (there, is) refl
 

@@ -8,7 +8,7 @@ use Rattle.guest_env.specs.Answers.{IsReading, IsWriting}
 use Rattle.rvv_meaning.specs.declared.Call.TheVariants.{Read}
 use Rattle.rvv_meaning.specs.declared.Mode.TheVariants.{Running}
 use Rattle.rvv_meaning.specs.Calls.{named_call, third, memory_after}
-use Rattle.rvv_meaning.specs.States.{Core, State, reg, puts, call_at}
+use Rattle.rvv_meaning.specs.States.{Core, State, reg, puts, asked, call_at}
 use Rattle.machine.specs.declared.answers.DeviceFault.{DeviceFault}
 use Rattle.machine.specs.declared.answers.DeviceFault.TheVariants.{ReadFault, WriteFault}
 use Rattle.machine.specs.Moments.{Held, Moment, moment_after, moments}
@@ -106,3 +106,19 @@ abbrev pub StandsIn : DeviceFault → ℕ → Bool → Held → Held → Option 
 StandsIn fault n merged old new left left' out out' err err' =
     (m : Moment) (first_out first_err : Option (List ℕ)) → Shows merged m old left first_out out first_err err
     → (k : ℕ) × (k < n) × StandsAt fault merged (moments m k) new left' first_out out' first_err err'
+
+-- The objects show a moment from which every step of n that is made is so.
+abbrev pub EachStep : (Core → Type 0) → ℕ → Bool → Held → Option (List ℕ) → Option (List ℕ) → Option (List ℕ) → Type 0
+EachStep P n merged old left out err =
+    (m : Moment) × (first_out : Option (List ℕ)) × (first_err : Option (List ℕ)) × Shows merged m old left first_out out first_err err
+    × ((k : ℕ) → k < n → (moments m k).state.core.mode ≡ Running → P (moments m k).state.core)
+
+-- a step asks for no byte of the input, and adds none to the first sink, to the second
+abbrev pub AsksNothing : Core → Type 0
+AsksNothing c = asked c ≡ 0
+
+abbrev pub AddsNoOut : Bool → Core → Type 0
+AddsNoOut merged c = gains_out merged c ≡ []
+
+abbrev pub AddsNoErr : Bool → Core → Type 0
+AddsNoErr merged c = gains_err merged c ≡ []

@@ -14,7 +14,7 @@ ghost use Rattle.guest_env.specs.Outputs.{bytes_out, bytes_err, IsFaultOf};
 ghost use Rattle.guest_env.specs.Answers.{FailsReading, FailsWriting, IsWriting};
 ghost use Rattle.machine.specs.Answers.{answer_of};
 ghost use Rattle.machine.specs.Moments.{moment_after, moments};
-ghost use Rattle.machine.specs.Views.{CallsAt, GoesBy, FaultsIn, ReadsIn, AsksDevice, LeavesMemory, StandsIn};
+ghost use Rattle.machine.specs.Views.{CallsAt, GoesBy, FaultsIn, ReadsIn, AsksDevice, LeavesMemory, StandsIn, EachStep, AsksNothing, AddsNoOut, AddsNoErr};
 ghost use Rattle.machine.specs.Carrying.{Carries, Fails};
 
 use crate::answers::{DeviceFault, Step};
@@ -88,6 +88,9 @@ impl Machine {
         ensures front_err { OnErr result (PutsFront (E.held err.old) (E.held err.new) (bytes_err merged (first self.old.core.regs) (put_by (named_call self.old.core.regs) self.old.core.regs self.old.core.mem))) }
         ensures read_fault { IsErrOf result DeviceFault.ReadFault → FailsReading self.old.core.regs self.old.core.mem self.new.core.mem (S.left input.old) (S.left input.new) (S.faults input.old) (S.faults input.new) }
         ensures write_fault { IsErrOf result DeviceFault.WriteFault → FailsWriting merged self.old.core.regs self.old.core.mem self.new.core.mem (O.faults out.old) (O.faults out.new) (E.faults err.old) (E.faults err.new) }
+        ensures input_stays { asked_by (named_call self.old.core.regs) self.old.core.regs self.old.core.mem ≡ 0 → input.new ≡ input.old }
+        ensures out_stays { bytes_out merged (first self.old.core.regs) (put_by (named_call self.old.core.regs) self.old.core.regs self.old.core.mem) ≡ [] → out.new ≡ out.old }
+        ensures err_stays { bytes_err merged (first self.old.core.regs) (put_by (named_call self.old.core.regs) self.old.core.regs self.old.core.mem) ≡ [] → err.new ≡ err.old }
         ensures later_input { S.faults input.old ≤ S.faults input.new }
         ensures later_out { O.faults out.old ≤ O.faults out.new }
         ensures later_err { E.faults err.old ≤ E.faults err.new }
@@ -127,6 +130,9 @@ impl Machine {
         ensures fails { OnErr result (Fails merged self.old (O.held out.old) (O.held out.new) (E.held err.old) (E.held err.new)) }
         ensures read_fault { IsErrOf result DeviceFault.ReadFault → FailsReading self.old.core.regs self.old.core.mem self.new.core.mem (S.left input.old) (S.left input.new) (S.faults input.old) (S.faults input.new) }
         ensures write_fault { IsErrOf result DeviceFault.WriteFault → FailsWriting merged self.old.core.regs self.old.core.mem self.new.core.mem (O.faults out.old) (O.faults out.new) (E.faults err.old) (E.faults err.new) }
+        ensures input_stays { AsksNothing self.old.core → input.new ≡ input.old }
+        ensures out_stays { AddsNoOut merged self.old.core → out.new ≡ out.old }
+        ensures err_stays { AddsNoErr merged self.old.core → err.new ≡ err.old }
         ensures later_input { S.faults input.old ≤ S.faults input.new }
         ensures later_out { O.faults out.old ≤ O.faults out.new }
         ensures later_err { E.faults err.old ≤ E.faults err.new }
@@ -165,6 +171,9 @@ impl Machine {
         ensures fails { OnErr result (Fails merged self.old (O.held out.old) (O.held out.new) (E.held err.old) (E.held err.new)) }
         ensures read_fault { IsErrOf result DeviceFault.ReadFault → FailsReading self.old.core.regs self.old.core.mem self.new.core.mem (S.left input.old) (S.left input.new) (S.faults input.old) (S.faults input.new) }
         ensures write_fault { IsErrOf result DeviceFault.WriteFault → FailsWriting merged self.old.core.regs self.old.core.mem self.new.core.mem (O.faults out.old) (O.faults out.new) (E.faults err.old) (E.faults err.new) }
+        ensures input_stays { AsksNothing self.old.core → input.new ≡ input.old }
+        ensures out_stays { AddsNoOut merged self.old.core → out.new ≡ out.old }
+        ensures err_stays { AddsNoErr merged self.old.core → err.new ≡ err.old }
         ensures later_input { S.faults input.old ≤ S.faults input.new }
         ensures later_out { O.faults out.old ≤ O.faults out.new }
         ensures later_err { E.faults err.old ≤ E.faults err.new }
@@ -217,6 +226,11 @@ impl Machine {
         ensures fronts { OnErr result (FaultsIn moment_after merged self.old (S.left input.old) (O.held out.old) (O.held out.new) (E.held err.old) (E.held err.new)) }
         ensures read_fault { IsErrOf result DeviceFault.ReadFault → FailsReading self.old.core.regs self.old.core.mem self.new.core.mem (S.left input.old) (S.left input.new) (S.faults input.old) (S.faults input.new) }
         ensures write_fault { IsErrOf result DeviceFault.WriteFault → FailsWriting merged self.old.core.regs self.old.core.mem self.new.core.mem (O.faults out.old) (O.faults out.new) (E.faults err.old) (E.faults err.new) }
+
+        // A device that the step does not ask stays as it was.
+        ensures input_stays { AsksNothing self.old.core → input.new ≡ input.old }
+        ensures out_stays { AddsNoOut merged self.old.core → out.new ≡ out.old }
+        ensures err_stays { AddsNoErr merged self.old.core → err.new ≡ err.old }
         ensures later_input { S.faults input.old ≤ S.faults input.new }
         ensures later_out { O.faults out.old ≤ O.faults out.new }
         ensures later_err { E.faults err.old ≤ E.faults err.new }
@@ -260,6 +274,12 @@ impl Machine {
         ensures reads { IsErrOf result DeviceFault.ReadFault → ReadsIn n merged self.old (S.left input.old) (O.held out.old) (E.held err.old) }
         ensures write_cause { IsErrOf result DeviceFault.WriteFault → IsFaultOf merged (first self.new.core.regs) (O.faults out.old) (O.faults out.new) (E.faults err.old) (E.faults err.new) }
         ensures write_at { IsErrOf result DeviceFault.WriteFault → CallsAt self.new.core × IsWriting self.new.core.regs self.new.core.mem }
+
+        // A device that no step asks stays as it was.
+        ensures input_stays { EachStep AsksNothing n merged self.old (S.left input.old) (O.held out.old) (E.held err.old) → input.new ≡ input.old }
+        ensures out_stays { EachStep (AddsNoOut merged) n merged self.old (S.left input.old) (O.held out.old) (E.held err.old) → out.new ≡ out.old }
+        ensures err_stays { EachStep (AddsNoErr merged) n merged self.old (S.left input.old) (O.held out.old) (E.held err.old) → err.new ≡ err.old }
+        ensures merged_out { merged ≡ true → out.new ≡ out.old }
         ensures later_input { S.faults input.old ≤ S.faults input.new }
         ensures later_out { O.faults out.old ≤ O.faults out.new }
         ensures later_err { E.faults err.old ≤ E.faults err.new }
