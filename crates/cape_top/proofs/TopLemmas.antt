@@ -16,7 +16,7 @@ use Rattle.rvv_meaning.specs.Images.{start_core, start_state}
 use Rattle.machine.specs.Moments.{Held, first_moment, cleared_control}
 use Rattle.machine.specs.Opening.{start, memory_of}
 use Rattle.machine.specs.Views.{Shows, GainsFront}
-use Rattle.machine.specs.Answers.{answer_of}
+use Rattle.machine.specs.Answers.{step_for}
 use Rattle.machine.specs.declared.answers.Step.{Step}
 use Rattle.machine.proofs.Carried.{appends_none}
 use Rattle.cape_top.specs.declared.ending.Status.{Status}
@@ -99,7 +99,7 @@ pub same_command : (found read : Option Command) (command c : Command) → found
 same_command found read command c same is named = cc
 
 -- the machine is kept where the mode says so
-pub kept_or_none : (mode : Mode) (machine : Held) (a : Step) → a ≡ answer_of mode → KeepsMachine (status_for_answer a) ⊎ (held_for mode machine ≡ None)
+pub kept_or_none : (mode : Mode) (machine : Held) (a : Step) → a ≡ step_for mode → KeepsMachine (status_for_answer a) ⊎ (held_for mode machine ≡ None)
 kept_or_none Running machine a is = inl (rw is tt)
 kept_or_none (Exited code) machine a is = inl (rw is tt)
 kept_or_none (Trapped t) machine a is = inl (rw is tt)

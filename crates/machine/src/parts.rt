@@ -4,7 +4,7 @@ ghost use Rattle.bit_rows.specs.Slices.{blank};
 ghost use Rattle.cam_chain.specs.ChainValue.{slices_of, no_counts};
 ghost use Rattle.vtype_cfg.specs.Settings.{is_legal_vlen};
 ghost use Rattle.rvv_meaning.specs.Images.{start_core};
-ghost use Rattle.machine.specs.Answers.{answer_of, halt_of};
+ghost use Rattle.machine.specs.Answers.{step_for, halt_of};
 ghost use Rattle.machine.specs.Moments.{cleared_control};
 ghost use Rattle.machine.specs.Opening.{memory_of};
 
@@ -242,7 +242,7 @@ impl Machine {
 
     // The answer for the mode.
     pub(crate) fn answer(&self) -> Step
-        ensures { result ≡ answer_of self.now.core.mode }
+        ensures { result ≡ step_for self.now.core.mode }
     {
         match self.mode {
             Mode::Running => Step::Ran,

@@ -12,7 +12,7 @@ ghost use Rattle.rvv_meaning.specs.Calls.{first, named_call, asked_by, put_by};
 ghost use Rattle.guest_env.specs.Inputs.{Takes};
 ghost use Rattle.guest_env.specs.Outputs.{bytes_out, bytes_err, IsFaultOf};
 ghost use Rattle.guest_env.specs.Answers.{FailsReading, FailsWriting, IsWriting};
-ghost use Rattle.machine.specs.Answers.{answer_of};
+ghost use Rattle.machine.specs.Answers.{step_for};
 ghost use Rattle.machine.specs.Moments.{moment_after, moments};
 ghost use Rattle.machine.specs.Views.{CallsAt, GoesBy, FaultsIn, ReadsIn, AsksDevice, LeavesMemory, StandsIn, EachStep, AsksNothing, AddsNoOut, AddsNoErr};
 ghost use Rattle.machine.specs.Carrying.{Carries, Fails};
@@ -49,8 +49,8 @@ impl Machine {
         self.csrs.retired += 1;
     }
 
-    // The place behind the word at pc.
-    pub(crate) fn behind(&self) -> u32
+    // The address after the word at pc.
+    pub(crate) fn next_pc(&self) -> u32
         ensures { result ≡ low 32 (self.now.core.pc + 4) }
     {
         self.pc.wrapping_add(WORD_BYTES)
@@ -97,11 +97,11 @@ impl Machine {
     {
         match call(&mut self.regs, &mut self.mem, input, out, err, merged) {
             Ok(EnvFlow::Back) => {
-                self.retire_to(self.behind());
+                self.retire_to(self.next_pc());
                 Ok(())
             }
             Ok(EnvFlow::Exit(code)) => {
-                self.retire_to(self.behind());
+                self.retire_to(self.next_pc());
                 self.mode = Mode::Exited(code);
                 Ok(())
             }
@@ -139,7 +139,7 @@ impl Machine {
     {
         match self.execute(i) {
             Flow::Next => {
-                self.retire_to(self.behind());
+                self.retire_to(self.next_pc());
                 Ok(())
             }
             Flow::Jump(target) => {
@@ -211,7 +211,7 @@ impl Machine {
         ensures live { OnOk result (self.new.live ≡ true) }
         ensures count { OnOk result (self.new.core.csrs.retired ≤ self.old.core.csrs.retired + 1) }
         ensures length { self.new.core.csrs.vlen ≡ self.old.core.csrs.vlen }
-        ensures answer { IfOk result (λ answer. answer ≡ answer_of self.new.core.mode) }
+        ensures answer { IfOk result (λ answer. answer ≡ step_for self.new.core.mode) }
 
         // Agnostic elements are as the standard permits, whatever the policy is.
         ensures allowed { OnOk result ((taken : List ℕ) × Takes (asked self.old.core) (S.left input.old) (S.left input.new) taken × Allowed self.old.core taken self.new.core) }
@@ -263,7 +263,7 @@ impl Machine {
         ensures live { OnOk result (self.new.live ≡ true) }
         ensures count { OnOk result (self.new.core.csrs.retired ≤ self.old.core.csrs.retired + n) }
         ensures length { self.new.core.csrs.vlen ≡ self.old.core.csrs.vlen }
-        ensures answer { IfOk result (λ answer. answer ≡ answer_of self.new.core.mode) }
+        ensures answer { IfOk result (λ answer. answer ≡ step_for self.new.core.mode) }
 
         // What stands after a device fault, and its cause.
         ensures not_live { OnErr result (self.new.live ≡ false) }

@@ -85,7 +85,7 @@ impl Machine {
         self.csrs.vl = vl;
         self.csrs.vtype = vtype.bits();
         self.regs.set(i.vd, vl);
-        self.retire_to(self.behind());
+        self.retire_to(self.next_pc());
     }
 
     // The scalar that an instruction takes.

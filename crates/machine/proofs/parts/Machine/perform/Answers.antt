@@ -10,7 +10,7 @@ returns-in-Next-clause-carries g c =
     let goes : (effect_at c.args.i.now c.args.self.now.core).flow ≡ Next = sym c.in-Next.ensures.flow in (
       [],
       carries-scalar c.args.merged c.args.self.now c.retire_to.new.self _ _ _ c.args.i.now Next c.requires.there goes refl
-          (emptied c.args.self.now c.retire_to.new.self _ c.requires.empty (c.retire_to.ensures ∙ rw (c.behind.ensures, c.execute.ensures.core) refl)),
+          (emptied c.args.self.now c.retire_to.new.self _ c.requires.empty (c.retire_to.ensures ∙ rw (c.next_pc.ensures, c.execute.ensures.core) refl)),
     )
 
 pub returns-in-Jump-clause-carries : goal.returns-in-Jump-clause-carries
