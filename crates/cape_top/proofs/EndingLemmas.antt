@@ -8,7 +8,7 @@ use Rattle.rvv_meaning.specs.declared.Mode.TheVariants.{Running, Exited, Trapped
 use Rattle.rvv_meaning.specs.States.{State, run}
 use Rattle.rvv_meaning.specs.Texts.{report, report_at}
 use Rattle.machine.specs.declared.answers.Step.{Step}
-use Rattle.machine.specs.Answers.{answer_of}
+use Rattle.machine.specs.Answers.{step_for}
 use Rattle.machine.specs.Moments.{Held, Moment, moments}
 use Rattle.machine.specs.Views.{Shows, GoesBy, FaultsIn, ReadsIn}
 use Rattle.machine.proofs.Showing.{appends_more}
@@ -17,13 +17,13 @@ use Rattle.cape_top.specs.declared.ending.Status.{Status}
 use Rattle.report_texts.specs.Lines.{line_of}
 use Rattle.cape_top.specs.Endings.{EndsBy, ending_of, FaultsBefore, ReadsWithin, status_of, kept_for, held_for, Kept, IsAt, Keeps, status_for_answer, shown}
 
-line_is_report : (mode : Mode) (n : ℕ) → line_of (answer_of mode) n ≡ report_at mode n
+line_is_report : (mode : Mode) (n : ℕ) → line_of (step_for mode) n ≡ report_at mode n
 line_is_report Running n = refl
 line_is_report (Exited c) n = refl
 line_is_report (Trapped t) n = refl
 line_is_report Unbuilt n = refl
 
-status_is_mode : (mode : Mode) → status_for_answer (answer_of mode) ≡ status_of mode
+status_is_mode : (mode : Mode) → status_for_answer (step_for mode) ≡ status_of mode
 status_is_mode Running = refl
 status_is_mode (Exited c) = refl
 status_is_mode (Trapped t) = refl
@@ -45,7 +45,7 @@ ending_run asked steps m = ap (λ (s : State). ending_of asked s (moments m step
 module _ (asked : Bool) (steps : ℕ) (machine machine' : Held) (left left' out out' err err' err'' : Option (List ℕ)) (answer : Step) (line : List ℕ)
     (goes : GoesBy (λ m. moments m steps) false machine machine' left left' out out' err err')
     (live : machine'.live ≡ true)
-    (answered : answer ≡ answer_of machine'.core.mode)
+    (answered : answer ≡ step_for machine'.core.mode)
     (text : line ≡ line_of answer machine'.core.csrs.retired ++ shown asked machine'.core)
   where
     -- the report was put

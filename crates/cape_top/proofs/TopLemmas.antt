@@ -8,15 +8,15 @@ use Rattle.elf_load.specs.Layout.{span_of}
 use Rattle.elf_load.specs.declared.faults.LoadFault.{LoadFault}
 use Rattle.elf_load.specs.declared.loaded.Loaded.{Loaded}
 use Rattle.bit_rows.specs.Slices.{blank}
-use Rattle.cam_chain.specs.ChainValue.{slices_of}
+use Rattle.cam_chain.specs.ChainValue.{slices_of, no_counts}
 use Rattle.vtype_cfg.specs.declared.configuration.Policy.{Policy}
 use Rattle.rvv_meaning.specs.declared.Mode.{Mode}
 use Rattle.rvv_meaning.specs.declared.Mode.TheVariants.{Running, Exited, Trapped, Unbuilt}
 use Rattle.rvv_meaning.specs.Images.{start_core, start_state}
-use Rattle.machine.specs.Moments.{Held, first_moment}
+use Rattle.machine.specs.Moments.{Held, first_moment, cleared_control}
 use Rattle.machine.specs.Opening.{start, memory_of}
 use Rattle.machine.specs.Views.{Shows, GainsFront}
-use Rattle.machine.specs.Answers.{answer_of}
+use Rattle.machine.specs.Answers.{step_for}
 use Rattle.machine.specs.declared.answers.Step.{Step}
 use Rattle.machine.proofs.Carried.{appends_none}
 use Rattle.cape_top.specs.declared.ending.Status.{Status}
@@ -53,11 +53,11 @@ check_ends image input l from = rw (from.sound, from.entry_pc, from.regions_are)
 
 -- a machine at its start shows the first moment
 pub shows_start : (vlen : ℕ) (policy : Policy) (pc : ℕ) (mem : Memory) (input : List ℕ) (machine : Held) (left out err : Option (List ℕ)) → left ≡ Some input
-    → machine.core ≡ start_core vlen policy pc mem → slices_of machine.chain ≡ blank (vlen / 32) → machine.last ≡ []
+    → machine.core ≡ start_core vlen policy pc mem → slices_of machine.chain ≡ blank (vlen / 32) → machine.last ≡ [] → machine.chain.counts ≡ no_counts → machine.control ≡ cleared_control
     → Shows false (first_moment (start_state vlen policy pc mem input)) machine left out out err err
 unfolding start_state start_core
-shows_start vlen policy pc mem input machine left out err told core slices last =
-    record { holds = sym core; slices = sym slices; last = sym last; told = told; gained_out = appends_none out; gained_err = appends_none err }
+shows_start vlen policy pc mem input machine left out err told core slices last counts control =
+    record { holds = sym core; slices = sym slices; last = sym last; counts = sym counts; control = sym control; told = told; gained_out = appends_none out; gained_err = appends_none err }
 
 pub front_put : (line : List ℕ) (first held : Option (List ℕ)) → PutsFront first held line → GainsFront first held line
 front_put line first held put = (take put.0 line, put.2, (drop put.0 line, sym (take-append-drop put.0 line)))
@@ -99,7 +99,7 @@ pub same_command : (found read : Option Command) (command c : Command) → found
 same_command found read command c same is named = cc
 
 -- the machine is kept where the mode says so
-pub kept_or_none : (mode : Mode) (machine : Held) (a : Step) → a ≡ answer_of mode → KeepsMachine (status_for_answer a) ⊎ (held_for mode machine ≡ None)
+pub kept_or_none : (mode : Mode) (machine : Held) (a : Step) → a ≡ step_for mode → KeepsMachine (status_for_answer a) ⊎ (held_for mode machine ≡ None)
 kept_or_none Running machine a is = inl (rw is tt)
 kept_or_none (Exited code) machine a is = inl (rw is tt)
 kept_or_none (Trapped t) machine a is = inl (rw is tt)

@@ -6,7 +6,7 @@ ghost use Rattle.rvv_meaning.specs.declared.Mode.TheVariants.{Running};
 ghost use Rattle.rvv_meaning.specs.States.{run};
 ghost use Rattle.machine.specs.Moments.{Moment, moments};
 ghost use Rattle.machine.specs.Views.{Shows};
-ghost use Rattle.machine.specs.Answers.{answer_of};
+ghost use Rattle.machine.specs.Answers.{step_for};
 ghost use Rattle.command_words.specs.Grammar.{most_steps};
 ghost use Rattle.cape_top.specs.Endings.{IsOfRun, IsFault, KeepsMachine, EndsBy, ending_of, FaultsBefore, ReadsWithin, status_for_answer, held_for, shown};
 ghost use Rattle.report_texts.specs.Lines.{line_of};
@@ -31,7 +31,7 @@ fn status_for(answer: Step) -> Status
 
 // Keeps the machine, unless it met what is not built.
 fn keep(kept: &mut Option<Machine>, machine: Machine, answer: Step)
-    requires answer { answer ≡ answer_of machine.core.mode }
+    requires answer { answer ≡ step_for machine.core.mode }
     requires none { kept.old ≡ None }
     ensures { kept.new ≡ held_for machine.core.mode machine }
 {

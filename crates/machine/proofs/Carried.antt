@@ -21,14 +21,14 @@ use Rattle.rvv_meaning.specs.declared.Flow.{Flow}
 use Rattle.rvv_meaning.specs.declared.Flow.TheVariants.{Call as Calls}
 use Rattle.rvv_meaning.specs.declared.Next.TheVariants.{Stop, Perform}
 use Rattle.rvv_meaning.specs.Calls.{first, named_call, asked_by, put_by}
-use Rattle.rvv_meaning.specs.States.{Core, next, core_after, call_at, call_by, asked, puts, effect_at, with_effect, after_flow, executed_vector, called, cfg_at, reg}
+use Rattle.rvv_meaning.specs.States.{Core, next, core_after, call_at, call_by, asked, puts, effect_at, with_effect, after_flow, executed_vector, called, reg}
 use Rattle.rvv_meaning.specs.Operations.{operation_for}
-use Rattle.rvv_meaning.specs.Vectors.{scalar_operand, is_on_elements}
+use Rattle.rvv_meaning.specs.Vectors.{is_on_elements}
 use Rattle.rvv_meaning.proofs.Calling.{Rests, executed-rests}
 use Rattle.guest_env.specs.Inputs.{Takes}
 use Rattle.guest_env.specs.Outputs.{bytes_out, bytes_err}
-use Rattle.vec_exec.specs.Programs.{prog, is_engine, is_engine_op, is_opi_engine, is_opm_engine}
-use Rattle.machine.specs.Moments.{Held, program_at, slices_by, control_by}
+use Rattle.vec_exec.specs.Programs.{is_engine, is_engine_op, is_opi_engine, is_opm_engine}
+use Rattle.machine.specs.Moments.{Held, program_for, program_at, slices_by, counts_by, control_by}
 use Rattle.machine.specs.Views.{gains_out, gains_err}
 use Rattle.machine.specs.Carrying.{Carries, Fails}
 
@@ -56,6 +56,10 @@ gains_err-none : (merged : Bool) (c : Core) → puts c ≡ [] → gains_err merg
 gains_err-none true c none = none
 gains_err-none false c none = rw none (either_way (nat_eq (reg c 10) 2) [])
 
+-- merged, the first sink gains nothing
+pub none_merged : (merged : Bool) (c : Core) → merged ≡ true → gains_out merged c ≡ []
+none_merged merged c is = rw is refl
+
 -- a step without a call asks for nothing and puts nothing
 no_asking : (c : Core) → call_at c ≡ None → asked c ≡ 0
 unfolding asked
@@ -81,7 +85,7 @@ still i c is =
     rw (Rests.regs_rest rests is, Rests.csrs_rest rests is, Rests.mem_rests rests is) refl
 
 -- what it asks for, and what it puts
-call_asks : (i : Instr) (c : Core) → next c ≡ Perform (Scalar i) → (effect_at i c).flow ≡ Calls → asked c ≡ asked_by (named_call c.regs) c.regs c.mem
+pub call_asks : (i : Instr) (c : Core) → next c ≡ Perform (Scalar i) → (effect_at i c).flow ≡ Calls → asked c ≡ asked_by (named_call c.regs) c.regs c.mem
 unfolding asked call_at
 call_asks i c there is = rw (there, is) refl
 
@@ -124,7 +128,7 @@ module _ (merged : Bool) (old new : Held) (left out err : Option (List ℕ)) whe
   unfolding core_after program_at call_at
   carries-stop mode there is =
       let none : call_at old.core ≡ None = rw there refl in
-      rw is record { core = rw there refl; slices = rw there refl; last = rw there refl; control = rw there refl; live = refl; took = quiet_takes old.core left none; gained_out = quiet_out merged old.core out none; gained_err = quiet_err merged old.core err none }
+      rw is record { core = rw there refl; slices = rw there refl; last = rw there refl; counts = rw there refl; control = rw there refl; live = refl; took = quiet_takes old.core left none; gained_out = quiet_out merged old.core out none; gained_err = quiet_err merged old.core err none }
 
   -- a scalar instruction that is no call
   pub carries-scalar : (i : Instr) (flow : Flow) → next old.core ≡ Perform (Scalar i) → (effect_at i old.core).flow ≡ flow → call_by flow old.core.regs ≡ None
@@ -132,7 +136,7 @@ module _ (merged : Bool) (old new : Held) (left out err : Option (List ℕ)) whe
   unfolding core_after program_at call_at
   carries-scalar i flow there goes plain is =
       let none : call_at old.core ≡ None = rw (there, goes) plain in
-      rw is record { core = rw (there, goes) refl; slices = rw there refl; last = rw there refl; control = rw there refl; live = refl; took = quiet_takes old.core left none; gained_out = quiet_out merged old.core out none; gained_err = quiet_err merged old.core err none }
+      rw is record { core = rw (there, goes) refl; slices = rw there refl; last = rw there refl; counts = rw there refl; control = rw there refl; live = refl; took = quiet_takes old.core left none; gained_out = quiet_out merged old.core out none; gained_err = quiet_err merged old.core err none }
 
   -- a configuration
   pub carries-configuration : (op : ConfigOp) (i : VInstr) → next old.core ≡ Perform (Vector i) → i.op ≡ Config op → new ≡ record old { core = executed_vector i old.core; last = [] }
@@ -140,24 +144,26 @@ module _ (merged : Bool) (old new : Held) (left out err : Option (List ℕ)) whe
   unfolding core_after program_at call_at is_engine
   carries-configuration op i there named is =
       let none : call_at old.core ≡ None = rw there refl in
-      rw is record { core = rw (there, named) refl; slices = rw (there, named) refl; last = rw (there, named) refl; control = rw (there, named) refl; live = refl; took = quiet_takes old.core left none; gained_out = quiet_out merged old.core out none; gained_err = quiet_err merged old.core err none }
+      rw is record { core = rw (there, named) refl; slices = rw (there, named) refl; last = rw (there, named) refl; counts = rw (there, named) refl; control = rw (there, named) refl; live = refl; took = quiet_takes old.core left none; gained_out = quiet_out merged old.core out none; gained_err = quiet_err merged old.core err none }
 
   -- an instruction on elements
   pub carries-program : (i : VInstr) → next old.core ≡ Perform (Vector i) → is_on_elements i.op ≡ true
       → new.core ≡ executed_vector i old.core
-      → slices_of new.chain ≡ slices_by (Some (prog i (cfg_at old.core) (scalar_operand i old.core.regs))) (slices_of old.chain)
-      → new.last ≡ prog i (cfg_at old.core) (scalar_operand i old.core.regs)
-      → new.control ≡ control_by (Some (prog i (cfg_at old.core) (scalar_operand i old.core.regs))) (slices_of old.chain) old.control
+      → slices_of new.chain ≡ slices_by (Some (program_for i old.core)) (slices_of old.chain)
+      → new.last ≡ program_for i old.core
+      → new.chain.counts ≡ counts_by (Some (program_for i old.core)) old.chain.counts
+      → new.control ≡ control_by (Some (program_for i old.core)) (slices_of old.chain) old.control
       → new.live ≡ old.live
       → Carries merged old new [] left left out out err err
   unfolding core_after program_at call_at
-  carries-program i there on core slices last control live =
+  carries-program i there on core slices last counts control live =
       let none : call_at old.core ≡ None = rw there refl in
       let runs = runs-program i on in
       record {
         core = core ∙ rw there refl;
         slices = slices ∙ rw (there, runs) refl;
         last = last ∙ rw (there, runs) refl;
+        counts = counts ∙ rw (there, runs) refl;
         control = control ∙ rw (there, runs) refl;
         live = live;
         took = quiet_takes old.core left none;
@@ -185,6 +191,7 @@ module _ (merged : Bool) (old new : Held) (left left' out out' err err' : Option
         core = rw (there, is, still i old.core is) refl;
         slices = rw there refl;
         last = rw there refl;
+        counts = rw there refl;
         control = rw there refl;
         live = refl;
         took = rw (call_asks i old.core there is) took;

@@ -1,10 +1,13 @@
 -- Runs: they go on step by step, stop where the machine stops, and only add to what was put out.
-use Rattle.std.proofs.Common.{◌≡◌, ℕ, zero, suc, ◌-◌, ◌≤◌, Bool, true, false, List, [], ◌++◌, Option, refl, sym, ap, ◌∙◌, append_assoc, append-nil, arith}
-use Rattle.rvv_meaning.specs.States.{State, step, run, is_running}
+use Rattle.std.proofs.Common.{◌≡◌, ℕ, zero, suc, ◌+◌, ◌-◌, ◌≤◌, Bool, true, false, List, [], ◌++◌, Option, refl, sym, ap, ◌∙◌, append_assoc, append-nil, arith}
+use Rattle.rvv_meaning.specs.declared.Mode.TheVariants.{Running}
+use Rattle.machine.specs.declared.answers.DeviceFault.{DeviceFault}
+use Rattle.rvv_meaning.specs.States.{Core, State, step, run, is_running}
 use Rattle.machine.specs.Moments.{Held, Moment, moment_after, moments}
 use Rattle.guest_env.specs.Answers.{IsReading}
-use Rattle.machine.specs.Views.{CallsAt, GoesBy, FaultsIn, IsFrontOf, RunsOn, ReadsIn, shown_out, shown_err, gains_out, gains_err}
+use Rattle.machine.specs.Views.{CallsAt, GoesBy, FaultsIn, IsFrontOf, RunsOn, ReadsIn, AsksDevice, LeavesMemory, StandsIn, EachStep, shown_out, shown_err, gains_out, gains_err}
 use Rattle.machine.proofs.Showing.{shown_out-step, shown_err-step}
+use Rattle.machine.proofs.Failing.{stands-at}
 
 front_same : (xs : List ℕ) → IsFrontOf xs xs
 front_same xs = ([], sym (append-nil xs))
@@ -110,6 +113,26 @@ module _ (n k : ℕ) (merged : Bool) (h0 h1 h2 : Held) (l0 l1 l2 o0 o1 o2 e0 e1 
   runs_reading more on calls reads = λ m fo fe shows.
       let w = on m fo fe shows in
       (n - suc k, omega arith, rw (← w.3, w.1.holds) calls, rw (← w.3, w.1.holds) reads)
+
+  -- a step of the run that fails leaves the machine at its moment
+  pub runs_stands : (fault : DeviceFault) → suc k ≤ n → RunsOn n (suc k) merged h0 h1 l0 l1 o0 o1 e0 e1 → h1.core.mode ≡ Running
+      → h2 ≡ record h1 { core = record h1.core { mem = h2.core.mem }; last = []; live = false } → AsksDevice fault h1.core → LeavesMemory fault h1.core h2.core.mem l1 l2
+      → FaultsIn moment_after merged h1 l1 o1 o2 e1 e2 → StandsIn fault n merged h0 h2 l0 l2 o0 o2 e0 e2
+  runs_stands fault more on running is asks memory faults = λ m fo fe shows.
+      let w = on m fo fe shows in
+      let f = faults w.0 fo fe w.1 in
+      (n - suc k, omega arith, rw (← w.3) (stands-at fault merged w.0 h1 h2 l1 l2 fo o1 o2 fe e1 e2 w.1 running is asks memory f.0 f.1))
+
+module _ (n k : ℕ) (merged : Bool) (h0 h1 : Held) (l0 l1 o0 o1 e0 e1 : Option (List ℕ)) where
+  -- a step of the run is as each of its steps is
+  pub runs_each : (P : Core → Type 0) → suc k ≤ n → RunsOn n (suc k) merged h0 h1 l0 l1 o0 o1 e0 e1 → h1.core.mode ≡ Running → EachStep P n merged h0 l0 o0 e0 → P h1.core
+  runs_each P more on running each =
+      let w = on each.0 each.1 each.2 each.3 in
+      rw (← w.1.holds, w.3) (each.4 (n - suc k) (omega arith) (rw (← w.3, w.1.holds) running))
+
+-- a step more retires one instruction more at most
+pub count_more : (after now before i : ℕ) → after ≤ now + 1 → now ≤ before + i → after ≤ before + (i + 1)
+count_more after now before i one some = omega arith
 
 -- the run is over after its last step
 pub runs_done : (n : ℕ) (merged : Bool) (h0 h1 : Held) (l0 l1 o0 o1 e0 e1 : Option (List ℕ)) → RunsOn n 0 merged h0 h1 l0 l1 o0 o1 e0 e1 → GoesBy (λ m. moments m n) merged h0 h1 l0 l1 o0 o1 e0 e1

@@ -56,6 +56,8 @@ goes_carried merged old new taken left left' out out' err err' w = λ m first_ou
       holds = core-step m.state ∙ rw (shows.holds, ← taken_is) (sym w.core);
       slices = rw (shows.holds, shows.slices) (sym w.slices);
       last = rw shows.holds (sym w.last);
+      counts = rw (shows.holds, shows.counts) (sym w.counts);
+      control = rw (shows.holds, shows.slices, shows.control) (sym w.control);
       told = rw (input-step m.state, shows.holds) (left_after (asked old.core) left left' m.state.input taken shows.told w.took);
       gained_out = rw (shown_out-step merged m.state, shows.holds) (appends_more first_out out out' (shown_out merged m.state) (gains_out merged old.core) shows.gained_out w.gained_out);
       gained_err = rw (shown_err-step merged m.state, shows.holds) (appends_more first_err err err' (shown_err merged m.state) (gains_err merged old.core) shows.gained_err w.gained_err);
@@ -76,7 +78,7 @@ faults_failed merged old left out out' err err' w = λ m first_out first_err sho
 -- the program of the step before plays no part in a step
 pub carries_forgotten : (merged : Bool) (old new : Held) (taken : List ℕ) (left left' out out' err err' : Option (List ℕ)) → Carries merged (record old { last = [] }) new taken left left' out out' err err' → Carries merged old new taken left left' out out' err err'
 carries_forgotten merged old new taken left left' out out' err err' w =
-    record { core = w.core; slices = w.slices; last = w.last; control = w.control; live = w.live; took = w.took; gained_out = w.gained_out; gained_err = w.gained_err }
+    record { core = w.core; slices = w.slices; last = w.last; counts = w.counts; control = w.control; live = w.live; took = w.took; gained_out = w.gained_out; gained_err = w.gained_err }
 
 pub fails_forgotten : (merged : Bool) (old : Held) (out out' err err' : Option (List ℕ)) → Fails merged (record old { last = [] }) out out' err err' → Fails merged old out out' err err'
 fails_forgotten merged old out out' err err' w = record { calls = w.calls; front_out = w.front_out; front_err = w.front_err }

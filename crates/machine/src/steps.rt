@@ -1,5 +1,5 @@
 // Steps and runs.
-ghost use Rattle.std.specs.Prelude.{◌≡◌, ◌+◌, ◌<◌, ◌≤◌, ◌^◌, ℕ, List, [], true, false, length, OnOk, OnErr, IfOk, IsErrOf};
+ghost use Rattle.std.specs.Prelude.{◌≡◌, ◌+◌, ◌<◌, ◌≤◌, ◌^◌, ℕ, List, [], true, false, length, OnOk, OnErr, IfOk, IfErr, IsErrOf};
 ghost use Rattle.std.specs.Io.KnownBytes.{Appends};
 ghost use Rattle.cape_io.specs.Devices.{PutsFront, Rose};
 ghost use Rattle.bit_laws.specs.Numbers.{low};
@@ -12,9 +12,9 @@ ghost use Rattle.rvv_meaning.specs.Calls.{first, named_call, asked_by, put_by};
 ghost use Rattle.guest_env.specs.Inputs.{Takes};
 ghost use Rattle.guest_env.specs.Outputs.{bytes_out, bytes_err, IsFaultOf};
 ghost use Rattle.guest_env.specs.Answers.{FailsReading, FailsWriting, IsWriting};
-ghost use Rattle.machine.specs.Answers.{answer_of};
+ghost use Rattle.machine.specs.Answers.{step_for};
 ghost use Rattle.machine.specs.Moments.{moment_after, moments};
-ghost use Rattle.machine.specs.Views.{CallsAt, GoesBy, FaultsIn, ReadsIn};
+ghost use Rattle.machine.specs.Views.{CallsAt, GoesBy, FaultsIn, ReadsIn, AsksDevice, LeavesMemory, StandsIn, EachStep, AsksNothing, AddsNoOut, AddsNoErr};
 ghost use Rattle.machine.specs.Carrying.{Carries, Fails};
 
 use crate::answers::{DeviceFault, Step};
@@ -49,8 +49,8 @@ impl Machine {
         self.csrs.retired += 1;
     }
 
-    // The place behind the word at pc.
-    pub(crate) fn behind(&self) -> u32
+    // The address after the word at pc.
+    pub(crate) fn next_pc(&self) -> u32
         ensures { result ≡ low 32 (self.now.core.pc + 4) }
     {
         self.pc.wrapping_add(WORD_BYTES)
@@ -88,17 +88,20 @@ impl Machine {
         ensures front_err { OnErr result (PutsFront (E.held err.old) (E.held err.new) (bytes_err merged (first self.old.core.regs) (put_by (named_call self.old.core.regs) self.old.core.regs self.old.core.mem))) }
         ensures read_fault { IsErrOf result DeviceFault.ReadFault → FailsReading self.old.core.regs self.old.core.mem self.new.core.mem (S.left input.old) (S.left input.new) (S.faults input.old) (S.faults input.new) }
         ensures write_fault { IsErrOf result DeviceFault.WriteFault → FailsWriting merged self.old.core.regs self.old.core.mem self.new.core.mem (O.faults out.old) (O.faults out.new) (E.faults err.old) (E.faults err.new) }
+        ensures input_stays { asked_by (named_call self.old.core.regs) self.old.core.regs self.old.core.mem ≡ 0 → input.new ≡ input.old }
+        ensures out_stays { bytes_out merged (first self.old.core.regs) (put_by (named_call self.old.core.regs) self.old.core.regs self.old.core.mem) ≡ [] → out.new ≡ out.old }
+        ensures err_stays { bytes_err merged (first self.old.core.regs) (put_by (named_call self.old.core.regs) self.old.core.regs self.old.core.mem) ≡ [] → err.new ≡ err.old }
         ensures later_input { S.faults input.old ≤ S.faults input.new }
         ensures later_out { O.faults out.old ≤ O.faults out.new }
         ensures later_err { E.faults err.old ≤ E.faults err.new }
     {
         match call(&mut self.regs, &mut self.mem, input, out, err, merged) {
             Ok(EnvFlow::Back) => {
-                self.retire_to(self.behind());
+                self.retire_to(self.next_pc());
                 Ok(())
             }
             Ok(EnvFlow::Exit(code)) => {
-                self.retire_to(self.behind());
+                self.retire_to(self.next_pc());
                 self.mode = Mode::Exited(code);
                 Ok(())
             }
@@ -127,13 +130,16 @@ impl Machine {
         ensures fails { OnErr result (Fails merged self.old (O.held out.old) (O.held out.new) (E.held err.old) (E.held err.new)) }
         ensures read_fault { IsErrOf result DeviceFault.ReadFault → FailsReading self.old.core.regs self.old.core.mem self.new.core.mem (S.left input.old) (S.left input.new) (S.faults input.old) (S.faults input.new) }
         ensures write_fault { IsErrOf result DeviceFault.WriteFault → FailsWriting merged self.old.core.regs self.old.core.mem self.new.core.mem (O.faults out.old) (O.faults out.new) (E.faults err.old) (E.faults err.new) }
+        ensures input_stays { AsksNothing self.old.core → input.new ≡ input.old }
+        ensures out_stays { AddsNoOut merged self.old.core → out.new ≡ out.old }
+        ensures err_stays { AddsNoErr merged self.old.core → err.new ≡ err.old }
         ensures later_input { S.faults input.old ≤ S.faults input.new }
         ensures later_out { O.faults out.old ≤ O.faults out.new }
         ensures later_err { E.faults err.old ≤ E.faults err.new }
     {
         match self.execute(i) {
             Flow::Next => {
-                self.retire_to(self.behind());
+                self.retire_to(self.next_pc());
                 Ok(())
             }
             Flow::Jump(target) => {
@@ -165,6 +171,9 @@ impl Machine {
         ensures fails { OnErr result (Fails merged self.old (O.held out.old) (O.held out.new) (E.held err.old) (E.held err.new)) }
         ensures read_fault { IsErrOf result DeviceFault.ReadFault → FailsReading self.old.core.regs self.old.core.mem self.new.core.mem (S.left input.old) (S.left input.new) (S.faults input.old) (S.faults input.new) }
         ensures write_fault { IsErrOf result DeviceFault.WriteFault → FailsWriting merged self.old.core.regs self.old.core.mem self.new.core.mem (O.faults out.old) (O.faults out.new) (E.faults err.old) (E.faults err.new) }
+        ensures input_stays { AsksNothing self.old.core → input.new ≡ input.old }
+        ensures out_stays { AddsNoOut merged self.old.core → out.new ≡ out.old }
+        ensures err_stays { AddsNoErr merged self.old.core → err.new ≡ err.old }
         ensures later_input { S.faults input.old ≤ S.faults input.new }
         ensures later_out { O.faults out.old ≤ O.faults out.new }
         ensures later_err { E.faults err.old ≤ E.faults err.new }
@@ -202,7 +211,7 @@ impl Machine {
         ensures live { OnOk result (self.new.live ≡ true) }
         ensures count { OnOk result (self.new.core.csrs.retired ≤ self.old.core.csrs.retired + 1) }
         ensures length { self.new.core.csrs.vlen ≡ self.old.core.csrs.vlen }
-        ensures answer { IfOk result (λ answer. answer ≡ answer_of self.new.core.mode) }
+        ensures answer { IfOk result (λ answer. answer ≡ step_for self.new.core.mode) }
 
         // Agnostic elements are as the standard permits, whatever the policy is.
         ensures allowed { OnOk result ((taken : List ℕ) × Takes (asked self.old.core) (S.left input.old) (S.left input.new) taken × Allowed self.old.core taken self.new.core) }
@@ -212,10 +221,16 @@ impl Machine {
 
         // What stands after a device fault, and its cause.
         ensures stays { OnErr result (self.new ≡ record self.old { core = record self.old.core { mem = self.new.core.mem }; last = []; live = false }) }
-        ensures calls { OnErr result (CallsAt self.old.core) }
+        ensures calls { IfErr result (λ fault. AsksDevice fault self.old.core) }
+        ensures memory { IfErr result (λ fault. LeavesMemory fault self.old.core self.new.core.mem (S.left input.old) (S.left input.new)) }
         ensures fronts { OnErr result (FaultsIn moment_after merged self.old (S.left input.old) (O.held out.old) (O.held out.new) (E.held err.old) (E.held err.new)) }
         ensures read_fault { IsErrOf result DeviceFault.ReadFault → FailsReading self.old.core.regs self.old.core.mem self.new.core.mem (S.left input.old) (S.left input.new) (S.faults input.old) (S.faults input.new) }
         ensures write_fault { IsErrOf result DeviceFault.WriteFault → FailsWriting merged self.old.core.regs self.old.core.mem self.new.core.mem (O.faults out.old) (O.faults out.new) (E.faults err.old) (E.faults err.new) }
+
+        // A device that the step does not ask stays as it was.
+        ensures input_stays { AsksNothing self.old.core → input.new ≡ input.old }
+        ensures out_stays { AddsNoOut merged self.old.core → out.new ≡ out.old }
+        ensures err_stays { AddsNoErr merged self.old.core → err.new ≡ err.old }
         ensures later_input { S.faults input.old ≤ S.faults input.new }
         ensures later_out { O.faults out.old ≤ O.faults out.new }
         ensures later_err { E.faults err.old ≤ E.faults err.new }
@@ -248,14 +263,23 @@ impl Machine {
         ensures live { OnOk result (self.new.live ≡ true) }
         ensures count { OnOk result (self.new.core.csrs.retired ≤ self.old.core.csrs.retired + n) }
         ensures length { self.new.core.csrs.vlen ≡ self.old.core.csrs.vlen }
-        ensures answer { IfOk result (λ answer. answer ≡ answer_of self.new.core.mode) }
+        ensures answer { IfOk result (λ answer. answer ≡ step_for self.new.core.mode) }
 
         // What stands after a device fault, and its cause.
+        ensures not_live { OnErr result (self.new.live ≡ false) }
+        ensures no_program { OnErr result (self.new.last ≡ []) }
+        ensures stands { IfErr result (λ fault. StandsIn fault n merged self.old self.new (S.left input.old) (S.left input.new) (O.held out.old) (O.held out.new) (E.held err.old) (E.held err.new)) }
         ensures fronts { OnErr result (FaultsIn (λ m. moments m n) merged self.old (S.left input.old) (O.held out.old) (O.held out.new) (E.held err.old) (E.held err.new)) }
         ensures read_cause { IsErrOf result DeviceFault.ReadFault → Rose (S.faults input.old) (S.faults input.new) }
         ensures reads { IsErrOf result DeviceFault.ReadFault → ReadsIn n merged self.old (S.left input.old) (O.held out.old) (E.held err.old) }
         ensures write_cause { IsErrOf result DeviceFault.WriteFault → IsFaultOf merged (first self.new.core.regs) (O.faults out.old) (O.faults out.new) (E.faults err.old) (E.faults err.new) }
         ensures write_at { IsErrOf result DeviceFault.WriteFault → CallsAt self.new.core × IsWriting self.new.core.regs self.new.core.mem }
+
+        // A device that no step asks stays as it was.
+        ensures input_stays { EachStep AsksNothing n merged self.old (S.left input.old) (O.held out.old) (E.held err.old) → input.new ≡ input.old }
+        ensures out_stays { EachStep (AddsNoOut merged) n merged self.old (S.left input.old) (O.held out.old) (E.held err.old) → out.new ≡ out.old }
+        ensures err_stays { EachStep (AddsNoErr merged) n merged self.old (S.left input.old) (O.held out.old) (E.held err.old) → err.new ≡ err.old }
+        ensures merged_out { merged ≡ true → out.new ≡ out.old }
         ensures later_input { S.faults input.old ≤ S.faults input.new }
         ensures later_out { O.faults out.old ≤ O.faults out.new }
         ensures later_err { E.faults err.old ≤ E.faults err.new }

@@ -1,7 +1,7 @@
 use Rattle.std.proofs.Common.{◌≡◌, [], refl, sym, ap, ◌∙◌}
 use Rattle.rvv_meaning.specs.declared.Flow.TheVariants.{Next, Jump, Trap, Call}
 use Rattle.rvv_meaning.specs.States.{Core, effect_at}
-use Rattle.machine.proofs.Carried.{emptied, still, carries-scalar, carries-call, fails-call}
+use Rattle.machine.proofs.Carried.{emptied, still, carries-scalar, carries-call, fails-call, call_asks, call_gains_out, call_gains_err}
 use Rattle.machine.proofs.Returns.{ok-three, err-two}
 use Rattle.machine.proofs.parts.Machine.perform.Goals as goal
 
@@ -10,7 +10,7 @@ returns-in-Next-clause-carries g c =
     let goes : (effect_at c.args.i.now c.args.self.now.core).flow ≡ Next = sym c.in-Next.ensures.flow in (
       [],
       carries-scalar c.args.merged c.args.self.now c.retire_to.new.self _ _ _ c.args.i.now Next c.requires.there goes refl
-          (emptied c.args.self.now c.retire_to.new.self _ c.requires.empty (c.retire_to.ensures ∙ rw (c.behind.ensures, c.execute.ensures.core) refl)),
+          (emptied c.args.self.now c.retire_to.new.self _ c.requires.empty (c.retire_to.ensures ∙ rw (c.next_pc.ensures, c.execute.ensures.core) refl)),
     )
 
 pub returns-in-Jump-clause-carries : goal.returns-in-Jump-clause-carries
@@ -60,3 +60,21 @@ returns-in-Call-clause-fails g c =
     let same : c.execute.new.self ≡ c.args.self.now = c.execute.ensures.core ∙ ap (λ (core : Core). record c.args.self.now { core = core }) (still c.args.i.now c.args.self.now.core calls) in
     err-two c.call.result (rw same at c.call.ensures.front_out) (rw same at c.call.ensures.front_err) (λ put_out put_err.
     fails-call c.args.merged c.args.self.now c.call.new.self (g.S.Source.left c.args.input.now) (g.S.Source.left c.call.new.input) _ _ _ _ c.args.i.now c.requires.there calls put_out put_err)
+
+pub returns-in-Call-clause-input_stays : goal.returns-in-Call-clause-input_stays
+returns-in-Call-clause-input_stays g c =
+    let calls : (effect_at c.args.i.now c.args.self.now.core).flow ≡ Call = sym c.in-Call.ensures.flow in
+    let same : c.execute.new.self ≡ c.args.self.now = c.execute.ensures.core ∙ ap (λ (core : Core). record c.args.self.now { core = core }) (still c.args.i.now c.args.self.now.core calls) in
+    λ none. (rw same at c.call.ensures.input_stays) (sym (call_asks c.args.i.now c.args.self.now.core c.requires.there calls) ∙ none)
+
+pub returns-in-Call-clause-out_stays : goal.returns-in-Call-clause-out_stays
+returns-in-Call-clause-out_stays g c =
+    let calls : (effect_at c.args.i.now c.args.self.now.core).flow ≡ Call = sym c.in-Call.ensures.flow in
+    let same : c.execute.new.self ≡ c.args.self.now = c.execute.ensures.core ∙ ap (λ (core : Core). record c.args.self.now { core = core }) (still c.args.i.now c.args.self.now.core calls) in
+    λ none. (rw same at c.call.ensures.out_stays) (sym (call_gains_out c.args.merged c.args.i.now c.args.self.now.core c.requires.there calls) ∙ none)
+
+pub returns-in-Call-clause-err_stays : goal.returns-in-Call-clause-err_stays
+returns-in-Call-clause-err_stays g c =
+    let calls : (effect_at c.args.i.now c.args.self.now.core).flow ≡ Call = sym c.in-Call.ensures.flow in
+    let same : c.execute.new.self ≡ c.args.self.now = c.execute.ensures.core ∙ ap (λ (core : Core). record c.args.self.now { core = core }) (still c.args.i.now c.args.self.now.core calls) in
+    λ none. (rw same at c.call.ensures.err_stays) (sym (call_gains_err c.args.merged c.args.i.now c.args.self.now.core c.requires.there calls) ∙ none)

@@ -25,7 +25,7 @@ returns-in-Opi c =
     let retired = ap (λ (k : Core). k.csrs.retired) c.run_program.ensures.core ∙ vector-retires c.args.i.now c.args.self.now.core in
     record {
       carries = λ merged left out err.
-          carries-program merged c.args.self.now c.run_program.new.self left out err c.args.i.now c.requires.there on c.run_program.ensures.core c.run_program.ensures.slices c.run_program.ensures.last c.run_program.ensures.control c.run_program.ensures.live;
+          carries-program merged c.args.self.now c.run_program.new.self left out err c.args.i.now c.requires.there on c.run_program.ensures.core c.run_program.ensures.slices c.run_program.ensures.last c.run_program.ensures.counts c.run_program.ensures.control c.run_program.ensures.live;
       count = omega (arith, retired);
       length = ap (λ (k : Core). k.csrs.vlen) c.run_program.ensures.core ∙ vector-length c.args.i.now c.args.self.now.core;
     }

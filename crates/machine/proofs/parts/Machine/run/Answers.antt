@@ -1,7 +1,10 @@
 use Rattle.std.proofs.Common.{◌≡◌, ◌≤◌, ◌+◌, ◌-◌, ◌∙◌, suc, refl, arith}
+use Rattle.std.proofs.Math.Nat.{le_trans}
 use Rattle.std.proofs.lemmas.Result.{err_from_is_err_and}
-use Rattle.machine.proofs.Runs.{runs_first, runs_step, runs_last, runs_fault, runs_done}
+use Rattle.machine.proofs.Carried.{none_merged}
+use Rattle.machine.proofs.Runs.{runs_first, runs_step, runs_last, runs_fault, runs_stands, runs_each, runs_done, count_more}
 use Rattle.machine.proofs.Modes.{ran_runs, others_stopped, running_runs}
+use Rattle.machine.specs.Views.{AsksNothing, AddsNoOut, AddsNoErr}
 use Rattle.machine.proofs.parts.Machine.run.Goals as goal
 
 pub returns-in_err-answer-clause-fronts : goal.returns-in_err-answer-clause-fronts
@@ -10,6 +13,14 @@ returns-in_err-answer-clause-fronts g c =
     let on = rw left at c.loop-i.invariant.on in
     let p = err_from_is_err_and c.from_residual.result c.from_residual.ensures.1 in
     rw p.1 (runs_fault _ _ _ _ _ c.args.self.now _ _ (g.S.Source.left c.args.input.now) _ _ _ _ _ _ on (running_runs _ c.loop-i.invariant.running) c.in_err-answer.ensures.fronts)
+
+pub returns-in_err-answer-clause-stands : goal.returns-in_err-answer-clause-stands
+returns-in_err-answer-clause-stands g c =
+    let left : c.args.n - c.loop-i.i ≡ suc (c.args.n - (c.loop-i.i + 1)) = omega arith in
+    let on = rw left at c.loop-i.invariant.on in
+    let more : suc (c.args.n - (c.loop-i.i + 1)) ≤ c.args.n = omega arith in
+    let p = err_from_is_err_and c.from_residual.result c.from_residual.ensures.1 in
+    rw (p.1, p.2) (runs_stands _ _ _ _ _ _ _ _ _ _ _ _ _ _ _ _ more on c.loop-i.invariant.running c.in_err-answer.ensures.stays c.in_err-answer.ensures.calls c.in_err-answer.ensures.memory c.in_err-answer.ensures.fronts)
 
 pub returns-in-Exited-clause-goes : goal.returns-in-Exited-clause-goes
 returns-in-Exited-clause-goes g c =
@@ -26,6 +37,10 @@ loop-i-init g c =
       live = c.requires.live;
       count = omega arith;
       length = refl;
+      input_stays = λ each. refl;
+      out_stays = λ each. refl;
+      err_stays = λ each. refl;
+      merged_out = λ is. refl;
       later_input = omega arith;
       later_out = omega arith;
       later_err = omega arith;
@@ -40,11 +55,15 @@ loop-i-preserved g c =
       on = runs_step _ _ _ _ _ _ _ _ _ _ _ _ _ _ _ more on (running_runs _ c.loop-i.invariant.running) c.in_ok-answer.ensures.goes;
       running = ran_runs _ c.in_ok-answer.answer c.in_ok-answer.ensures.answer c.in-Ran.is;
       live = c.in_ok-answer.ensures.live;
-      count = omega (arith, c.in_ok-answer.ensures.count);
+      count = count_more _ _ _ _ c.in_ok-answer.ensures.count c.loop-i.invariant.count;
       length = c.in_ok-answer.ensures.length ∙ c.loop-i.invariant.length;
-      later_input = omega arith;
-      later_out = omega arith;
-      later_err = omega arith;
+      input_stays = λ each. c.in_ok-answer.ensures.input_stays (runs_each _ _ _ _ _ _ _ _ _ _ _ AsksNothing more on c.loop-i.invariant.running each) ∙ c.loop-i.invariant.input_stays each;
+      out_stays = λ each. c.in_ok-answer.ensures.out_stays (runs_each _ _ _ _ _ _ _ _ _ _ _ (AddsNoOut c.args.merged) more on c.loop-i.invariant.running each) ∙ c.loop-i.invariant.out_stays each;
+      err_stays = λ each. c.in_ok-answer.ensures.err_stays (runs_each _ _ _ _ _ _ _ _ _ _ _ (AddsNoErr c.args.merged) more on c.loop-i.invariant.running each) ∙ c.loop-i.invariant.err_stays each;
+      merged_out = λ is. c.in_ok-answer.ensures.out_stays (none_merged c.args.merged c.loop-i.self.core is) ∙ c.loop-i.invariant.merged_out is;
+      later_input = le_trans c.loop-i.invariant.later_input c.in_ok-answer.ensures.later_input;
+      later_out = le_trans c.loop-i.invariant.later_out c.in_ok-answer.ensures.later_out;
+      later_err = le_trans c.loop-i.invariant.later_err c.in_ok-answer.ensures.later_err;
     }
 
 pub returns-clause-goes : goal.returns-clause-goes
@@ -52,3 +71,51 @@ returns-clause-goes g c =
     let none : c.args.n - c.loop-i.i ≡ 0 = omega arith in
     let on = rw none at c.loop-i.invariant.on in
     runs_done _ _ _ _ _ _ _ _ _ _ on
+
+pub returns-in_err-answer-clause-input_stays : goal.returns-in_err-answer-clause-input_stays
+returns-in_err-answer-clause-input_stays g c =
+    let left : c.args.n - c.loop-i.i ≡ suc (c.args.n - (c.loop-i.i + 1)) = omega arith in
+    let on = rw left at c.loop-i.invariant.on in
+    let more : suc (c.args.n - (c.loop-i.i + 1)) ≤ c.args.n = omega arith in
+    λ each. c.in_err-answer.ensures.input_stays (runs_each _ _ _ _ _ _ _ _ _ _ _ AsksNothing more on c.loop-i.invariant.running each) ∙ c.loop-i.invariant.input_stays each
+
+pub returns-in_err-answer-clause-out_stays : goal.returns-in_err-answer-clause-out_stays
+returns-in_err-answer-clause-out_stays g c =
+    let left : c.args.n - c.loop-i.i ≡ suc (c.args.n - (c.loop-i.i + 1)) = omega arith in
+    let on = rw left at c.loop-i.invariant.on in
+    let more : suc (c.args.n - (c.loop-i.i + 1)) ≤ c.args.n = omega arith in
+    λ each. c.in_err-answer.ensures.out_stays (runs_each _ _ _ _ _ _ _ _ _ _ _ (AddsNoOut c.args.merged) more on c.loop-i.invariant.running each) ∙ c.loop-i.invariant.out_stays each
+
+pub returns-in_err-answer-clause-err_stays : goal.returns-in_err-answer-clause-err_stays
+returns-in_err-answer-clause-err_stays g c =
+    let left : c.args.n - c.loop-i.i ≡ suc (c.args.n - (c.loop-i.i + 1)) = omega arith in
+    let on = rw left at c.loop-i.invariant.on in
+    let more : suc (c.args.n - (c.loop-i.i + 1)) ≤ c.args.n = omega arith in
+    λ each. c.in_err-answer.ensures.err_stays (runs_each _ _ _ _ _ _ _ _ _ _ _ (AddsNoErr c.args.merged) more on c.loop-i.invariant.running each) ∙ c.loop-i.invariant.err_stays each
+
+pub returns-in_err-answer-clause-merged_out : goal.returns-in_err-answer-clause-merged_out
+returns-in_err-answer-clause-merged_out g c = λ is. c.in_err-answer.ensures.out_stays (none_merged c.args.merged c.loop-i.self.core is) ∙ c.loop-i.invariant.merged_out is
+
+pub returns-in-Exited-clause-input_stays : goal.returns-in-Exited-clause-input_stays
+returns-in-Exited-clause-input_stays g c =
+    let left : c.args.n - c.loop-i.i ≡ suc (c.args.n - (c.loop-i.i + 1)) = omega arith in
+    let on = rw left at c.loop-i.invariant.on in
+    let more : suc (c.args.n - (c.loop-i.i + 1)) ≤ c.args.n = omega arith in
+    λ each. c.in_ok-answer.ensures.input_stays (runs_each _ _ _ _ _ _ _ _ _ _ _ AsksNothing more on c.loop-i.invariant.running each) ∙ c.loop-i.invariant.input_stays each
+
+pub returns-in-Exited-clause-out_stays : goal.returns-in-Exited-clause-out_stays
+returns-in-Exited-clause-out_stays g c =
+    let left : c.args.n - c.loop-i.i ≡ suc (c.args.n - (c.loop-i.i + 1)) = omega arith in
+    let on = rw left at c.loop-i.invariant.on in
+    let more : suc (c.args.n - (c.loop-i.i + 1)) ≤ c.args.n = omega arith in
+    λ each. c.in_ok-answer.ensures.out_stays (runs_each _ _ _ _ _ _ _ _ _ _ _ (AddsNoOut c.args.merged) more on c.loop-i.invariant.running each) ∙ c.loop-i.invariant.out_stays each
+
+pub returns-in-Exited-clause-err_stays : goal.returns-in-Exited-clause-err_stays
+returns-in-Exited-clause-err_stays g c =
+    let left : c.args.n - c.loop-i.i ≡ suc (c.args.n - (c.loop-i.i + 1)) = omega arith in
+    let on = rw left at c.loop-i.invariant.on in
+    let more : suc (c.args.n - (c.loop-i.i + 1)) ≤ c.args.n = omega arith in
+    λ each. c.in_ok-answer.ensures.err_stays (runs_each _ _ _ _ _ _ _ _ _ _ _ (AddsNoErr c.args.merged) more on c.loop-i.invariant.running each) ∙ c.loop-i.invariant.err_stays each
+
+pub returns-in-Exited-clause-merged_out : goal.returns-in-Exited-clause-merged_out
+returns-in-Exited-clause-merged_out g c = λ is. c.in_ok-answer.ensures.out_stays (none_merged c.args.merged c.loop-i.self.core is) ∙ c.loop-i.invariant.merged_out is
