@@ -25,3 +25,7 @@ partly done row new s = record {
 -- the subarrays from `low` on and below `high` of one column
 abbrev pub is_between : ℕ → ℕ → ℕ → ℕ → ℕ → Bool
 is_between at low high sub col = eqb col at && (leb low sub && ltb sub high)
+
+-- the subarrays from `low` on and below `high`
+abbrev pub spans : ℕ → ℕ → ℕ → ℕ → Bool
+spans low high sub col = leb low sub && ltb sub high

@@ -2,7 +2,8 @@ ghost use Rattle.std.specs.Prelude.{◌≡◌, ℕ, ◌-◌, ◌*◌, ◌/◌, �
 ghost use Rattle.steer_net.specs.Network.{packed, is_packed, top_bit, bit_in, is_width, PackReaches};
 ghost use Rattle.steer_net.specs.Rows.{mask_bit};
 
-use crate::windows::{MAX_COLUMNS, SUBARRAYS, read_row, write_words};
+use crate::columns::{read_row, write_words};
+use crate::sizes::{MAX_COLUMNS, SUBARRAYS};
 use bit_rows::Planes;
 
 /// Packs a bit of each element into bits of a row: each element of `width` bits, which is 1, 8, 16
@@ -27,7 +28,7 @@ pub fn pack_mask<P: Planes>(p: &mut P, from: u8, under: u8, to: u8, width: u8, f
     write_words(p, to, &words);
 }
 
-/// Packs the bits into the words of a row.
+// Packs the bits into the words of a row.
 fn pack_words<P: Planes>(
     p: &P,
     from: u8,
@@ -51,7 +52,7 @@ fn pack_words<P: Planes>(
     }
 }
 
-/// A bit of a row.
+// A bit of a row.
 fn row_bit<P: Planes>(p: &P, row: u8, number: u32) -> bool
     requires row { row < 64 }
     requires number { number < 32 * (P.slices p.now).columns }
@@ -61,7 +62,7 @@ fn row_bit<P: Planes>(p: &P, row: u8, number: u32) -> bool
     p.bit((number % subarrays) as u8, row, number / subarrays)
 }
 
-/// Writes a bit of a row that is held as words.
+// Writes a bit of a row that is held as words.
 fn put_bit(words: &mut [u32; MAX_COLUMNS], number: u32, bit: bool)
     requires { number < 32 * 2048 }
     ensures { (i : ℕ) → mask_bit words.new i ≡ cond (eqb i number) bit (mask_bit words.old i) }

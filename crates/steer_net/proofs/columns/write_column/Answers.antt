@@ -1,7 +1,7 @@
 use Rattle.std.proofs.Common.{◌∙◌}
 use Rattle.steer_net.specs.Rows.{is_one, mask_bit}
 use Rattle.steer_net.proofs.Parts.{element_more}
-use Rattle.steer_net.proofs.windows.write_column.Goals as goal
+use Rattle.steer_net.proofs.columns.write_column.Goals as goal
 
 pub loop-k-preserved : goal.loop-k-preserved
 loop-k-preserved g c =

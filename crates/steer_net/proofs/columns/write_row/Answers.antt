@@ -1,7 +1,7 @@
 use Rattle.std.proofs.Common.{◌∙◌, refl}
 use Rattle.steer_net.specs.Rows.{is_one, mask_bit}
 use Rattle.steer_net.proofs.Parts.{column_more}
-use Rattle.steer_net.proofs.windows.write_row.Goals as goal
+use Rattle.steer_net.proofs.columns.write_row.Goals as goal
 
 pub loop-col-preserved : goal.loop-col-preserved
 loop-col-preserved g c =

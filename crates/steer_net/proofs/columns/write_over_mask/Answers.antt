@@ -1,7 +1,7 @@
 use Rattle.std.proofs.Common.{◌∙◌}
 use Rattle.steer_net.proofs.Mask.{by_words, by_nothing, differ, agree}
-use Rattle.steer_net.proofs.windows.write_ones.Goals as goal
-use Rattle.steer_net.proofs.windows.write_ones.Goals.{then-ones, else-ones}
+use Rattle.steer_net.proofs.columns.write_over_mask.Goals as goal
+use Rattle.steer_net.proofs.columns.write_over_mask.Goals.{then-ones, else-ones}
 
 pub returns-clause-slices : goal.returns-clause-slices
 returns-clause-slices g c =

@@ -1,6 +1,6 @@
 use Rattle.std.proofs.Common.{◌≡◌}
 use Rattle.steer_net.specs.Rows.{partly, is_between}
-use Rattle.steer_net.proofs.windows.write_element.Given as goal
+use Rattle.steer_net.proofs.columns.write_element.Given as goal
 
 abbrev pub invariant-loop-sub : goal.invariant-loop-sub
 invariant-loop-sub g l = record {

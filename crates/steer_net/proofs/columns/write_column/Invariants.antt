@@ -1,6 +1,6 @@
 use Rattle.std.proofs.Common.{◌≡◌, ◌+◌, ◌*◌, ◌/◌}
 use Rattle.steer_net.specs.Rows.{partly, is_between, is_one, mask_bit}
-use Rattle.steer_net.proofs.windows.write_column.Given as goal
+use Rattle.steer_net.proofs.columns.write_column.Given as goal
 
 abbrev pub invariant-loop-k : goal.invariant-loop-k
 invariant-loop-k g l = record {

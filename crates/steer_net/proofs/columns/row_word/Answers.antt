@@ -1,7 +1,7 @@
 use Rattle.std.proofs.Common.{sym, ◌∙◌}
 use Rattle.steer_net.proofs.Mask.{read_set, read_skip}
-use Rattle.steer_net.proofs.windows.row_word.Goals as goal
-use Rattle.steer_net.proofs.windows.row_word.Goals.{then-bit, else-bit}
+use Rattle.steer_net.proofs.columns.row_word.Goals as goal
+use Rattle.steer_net.proofs.columns.row_word.Goals.{then-bit, else-bit}
 
 pub loop-sub-preserved : goal.loop-sub-preserved
 loop-sub-preserved g c =

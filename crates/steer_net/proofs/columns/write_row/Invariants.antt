@@ -1,7 +1,7 @@
 use Rattle.std.proofs.Common.{◌≡◌, ◌+◌, ltb}
 use Rattle.steer_net.specs.Network.{position}
 use Rattle.steer_net.specs.Rows.{partly, is_one, mask_bit}
-use Rattle.steer_net.proofs.windows.write_row.Given as goal
+use Rattle.steer_net.proofs.columns.write_row.Given as goal
 
 abbrev pub invariant-loop-col : goal.invariant-loop-col
 invariant-loop-col g l = record {
