@@ -73,7 +73,7 @@ heap_at start = record { start = start; len = heap_limit start - start; perms = 
 abbrev pub heap_span : List ℕ → Span
 heap_span image = heap_at (heap_start image)
 
--- all that is mapped for segments; the stack stands before the heap, so that a search from the front comes to it early
+-- all that is mapped for segments
 unfoldable pub mapped_spans : List Header → List Span
 mapped_spans hs = map segment_span hs ++ stack_span ∷ heap_at (start_behind hs) ∷ []
 
