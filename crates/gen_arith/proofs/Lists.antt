@@ -6,7 +6,7 @@ use Rattle.micro_ir.specs.Steps.{micro, micros}
 use Rattle.micro_ir.specs.WorkRows.{carry_row, result_row, truth_row}
 use Rattle.micro_ir.specs.Pieces.{above, everywhere, clear, commit, downs}
 use Rattle.micro_ir.proofs.StepLists.{micros-append, micros-one}
-use Rattle.gen_arith.specs.Recipes.{operands, values_of, digit, ripple, Sum, sum_steps, Compare, truth_steps, choice_steps}
+use Rattle.gen_arith.specs.Recipes.{digit, ripple, SumTables, sum_steps, TruthTables, truth_steps, choice_steps}
 
 module _ (w : ℕ) (inputs digits carries : List ℕ) (carry out : ℕ) where
   -- no bit yet
@@ -49,35 +49,35 @@ two-more first done m n p q r s = p ∙ rw (q, r, s) (simp append_assoc)
 
 -- ---- the kinds
 
-pub sum-list : (k : Sum) (w a b to : ℕ)
+pub sum-list : (k : SumTables) (w a b to : ℕ)
     → micros w (sum_steps k w a b to)
     ≡ micro w (clear w carry_row)
     ++ (micro w (above k.from k.from_on carry_row 0 0)
     ++ (micro w (clear w result_row)
-    ++ (micros w (ripple w (carry_row ∷ operands a b) (values_of k.digits a b) (values_of k.carries a b) carry_row result_row w) ++ micros w (commit w result_row to))))
+    ++ (micros w (ripple w (carry_row ∷ a ∷ b ∷ []) k.digits k.carries carry_row result_row w) ++ micros w (commit w result_row to))))
 unfolding sum_steps micros
 sum-list k w a b to =
-    rw (micros-append w (ripple w (carry_row ∷ operands a b) (values_of k.digits a b) (values_of k.carries a b) carry_row result_row w) (commit w result_row to)) refl
+    rw (micros-append w (ripple w (carry_row ∷ a ∷ b ∷ []) k.digits k.carries carry_row result_row w) (commit w result_row to)) refl
 
-pub truth-list : (k : Compare) (w a b : ℕ)
+pub truth-list : (k : TruthTables) (w a b : ℕ)
     → micros w (truth_steps k w a b)
     ≡ micro w (clear w carry_row)
     ++ (micro w (clear w truth_row)
     ++ (micro w (above k.from k.from_on carry_row 0 0)
-    ++ (micros w (ripple w (carry_row ∷ operands a b) [] (values_of k.carries a b) carry_row truth_row (w - 1)) ++ micro w (above (carry_row ∷ operands a b) (values_of k.last a b) truth_row (w - 1) 0))))
+    ++ (micros w (ripple w (carry_row ∷ a ∷ b ∷ []) [] k.carries carry_row truth_row (w - 1)) ++ micro w (above (carry_row ∷ a ∷ b ∷ []) k.last truth_row (w - 1) 0))))
 unfolding truth_steps micros
 truth-list k w a b =
-    let last = above (carry_row ∷ operands a b) (values_of k.last a b) truth_row (w - 1) 0 in
-    let carries = ripple w (carry_row ∷ operands a b) [] (values_of k.carries a b) carry_row truth_row (w - 1) in
+    let last = above (carry_row ∷ a ∷ b ∷ []) k.last truth_row (w - 1) 0 in
+    let carries = ripple w (carry_row ∷ a ∷ b ∷ []) [] k.carries carry_row truth_row (w - 1) in
     ap (λ l. micro w (clear w carry_row) ++ (micro w (clear w truth_row) ++ (micro w (above k.from k.from_on carry_row 0 0) ++ l)))
     (micros-append w carries (last ∷ []) ∙ ap (λ l. micros w carries ++ l) (micros-one w last))
 
-pub choice-list : (k : Compare) (on : List ℕ) (w a b to : ℕ)
+pub choice-list : (k : TruthTables) (on : List ℕ) (w a b to : ℕ)
     → micros w (choice_steps k on w a b to)
     ≡ micros w (truth_steps k w a b)
     ++ (micros w (downs truth_row (w - 1))
-    ++ (micro w (clear w result_row) ++ (micro w (everywhere w (truth_row ∷ operands a b) (values_of on a b) result_row true) ++ micros w (commit w result_row to))))
+    ++ (micro w (clear w result_row) ++ (micro w (everywhere w (truth_row ∷ a ∷ b ∷ []) on result_row true) ++ micros w (commit w result_row to))))
 unfolding choice_steps micros
 choice-list k on w a b to =
-    let rest = clear w result_row ∷ everywhere w (truth_row ∷ operands a b) (values_of on a b) result_row true ∷ commit w result_row to in
+    let rest = clear w result_row ∷ everywhere w (truth_row ∷ a ∷ b ∷ []) on result_row true ∷ commit w result_row to in
     micros-append w (truth_steps k w a b) (downs truth_row (w - 1) ++ rest) ∙ ap (λ l. micros w (truth_steps k w a b) ++ l) (micros-append w (downs truth_row (w - 1)) rest)

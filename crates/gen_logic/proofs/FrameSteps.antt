@@ -68,7 +68,7 @@ splat-measured w scalar = record {
 pub fill-makes : (w to : ℕ) → Makes w (λ e r i. cond (eqb r to && e free_row i) true (e r i)) (micros w (fill_step w to ∷ []))
 unfolding steps_on
 fill-makes w to =
-    makes w _ (fill_step w to ∷ []) (everywhere-fits w (free_row ∷ []) (1 ∷ []) to true, tt) inside (λ e r i past none. rw (none free_row, none r) (none_of (eqb r to) true false))
+    makes w _ (fill_step w to ∷ []) (everywhere-fits w (free_row ∷ []) (1 ∷ []) to, tt) inside (λ e r i past none. rw (none free_row, none r) (none_of (eqb r to) true false))
   where
     filled : (x y : Bool) → cond (hit (1 ∷ []) (x ∷ [])) true y ≡ cond x true y
     filled true y = refl

@@ -8,8 +8,7 @@ returns-clause-ops g c =
     c.push.ensures.ops
     ∙ rw (
       c.emit_free_bits.ensures.ops,
-      c.emit_list.ensures.ops,
-      c.emit_windows.ensures.ops,
+      c.emit_marked.ensures.ops,
       c.mask_place-at.ensures.a,
       c.mask_place-at.ensures.b,
       c.mask_place-at.ensures.addend,

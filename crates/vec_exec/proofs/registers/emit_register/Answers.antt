@@ -7,8 +7,7 @@ unfolding register_list
 returns-clause-ops g c =
     c.emit_free.ensures.ops
     ∙ rw (
-      c.emit_list.ensures.ops,
-      c.emit_windows.ensures.ops,
+      c.emit_marked.ensures.ops,
       c.place-at.ensures.a,
       c.place-at.ensures.b,
       c.place-at.ensures.addend,
