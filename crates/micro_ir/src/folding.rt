@@ -35,13 +35,7 @@ fn add_row(pairs: &mut [(u8, bool)], count: usize, row: u8, bit: bool) -> Option
             pairs[count] = (row, bit);
             Some(count + 1)
         }
-        Some(other) => {
-            if other == bit {
-                Some(count)
-            } else {
-                None
-            }
-        }
+        Some(other) => { if other == bit { Some(count) } else { None } }
     }
 }
 

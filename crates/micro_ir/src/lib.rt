@@ -16,8 +16,8 @@ pub use buf::MicroBuf;
 pub use control::Control;
 pub use op::MicroOp;
 pub use pieces::{
-    BitRange, emit_above, emit_below, emit_broadcast, emit_clear, emit_commit, emit_downs, emit_everywhere,
-    emit_rows, emit_ups, lanes, push_found,
+    BitRange, emit_above, emit_below, emit_broadcast, emit_clear, emit_commit, emit_downs,
+    emit_everywhere, emit_rows, emit_ups, lanes, push_found,
 };
 pub use place::Place;
 pub use replaying::replay;
