@@ -97,4 +97,64 @@ sum-few Add w = omega arith
 sum-few _ w = omega arith
 
 pub truth-few : (kind : Truth) (w : ℕ) → truth_length kind w ≤ 8 * w + 5
+truth-few MadcIn w = omega arith
+truth-few MsbcIn w = omega arith
+truth-few Eq w = omega arith
+truth-few Ne w = omega arith
 truth-few _ w = omega arith
+
+-- the operations of a list, part by part
+pub sum-size : (kind : Sum) (w : ℕ) → 11 * w + 2 + 2 * length (sum_tables kind).from_on ≡ sum_length kind w
+sum-size Add w = omega arith
+sum-size Sub w = omega arith
+sum-size Adc w = omega arith
+sum-size Sbc w = omega arith
+
+pub truth-size : (kind : Truth) (w : ℕ) → 0 < w
+    → 5 + 2 * length (truth_tables kind).from_on + (w - 1) * (length (truth_tables kind).carries + 2) + length (truth_tables kind).last ≡ truth_length kind w
+truth-size Madc w some = omega arith
+truth-size MadcIn w some = omega arith
+truth-size Msbc w some = omega arith
+truth-size MsbcIn w some = omega arith
+truth-size Eq w some = omega arith
+truth-size Ne w some = omega arith
+truth-size Ltu w some = omega arith
+truth-size Lt w some = omega arith
+truth-size Leu w some = omega arith
+truth-size Le w some = omega arith
+truth-size Gtu w some = omega arith
+truth-size Gt w some = omega arith
+
+pub carries-some : (kind : Truth) → 0 < length (truth_tables kind).carries
+carries-some Madc = omega arith
+carries-some MadcIn = omega arith
+carries-some Msbc = omega arith
+carries-some MsbcIn = omega arith
+carries-some Eq = omega arith
+carries-some Ne = omega arith
+carries-some Ltu = omega arith
+carries-some Lt = omega arith
+carries-some Leu = omega arith
+carries-some Le = omega arith
+carries-some Gtu = omega arith
+carries-some Gt = omega arith
+
+pub last-some : (kind : Truth) → 0 < length (truth_tables kind).last
+last-some Madc = omega arith
+last-some MadcIn = omega arith
+last-some Msbc = omega arith
+last-some MsbcIn = omega arith
+last-some Eq = omega arith
+last-some Ne = omega arith
+last-some Ltu = omega arith
+last-some Lt = omega arith
+last-some Leu = omega arith
+last-some Le = omega arith
+last-some Gtu = omega arith
+last-some Gt = omega arith
+
+pub order-size : (kind : Choice) (w : ℕ) → truth_length (order_of kind) w ≡ 6 * w + 3
+order-size Minu w = refl
+order-size Min w = refl
+order-size Maxu w = refl
+order-size Max w = refl

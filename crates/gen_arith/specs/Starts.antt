@@ -1,5 +1,5 @@
 -- What is carried into the lowest bit.
-use Rattle.std.specs.Prelude.{ℕ, List, [], ◌∷◌}
+use Rattle.std.specs.Prelude.{ℕ, ◌*◌, List, [], ◌∷◌, length}
 use Rattle.micro_ir.specs.WorkRows.{mask_row}
 use Rattle.gen_arith.specs.declared.steps.Start.{Start}
 use Rattle.gen_arith.specs.declared.steps.Start.TheVariants.{Zero, One, Mask, NotMask}
@@ -18,9 +18,6 @@ values_from One = 0 ∷ []
 values_from Mask = 1 ∷ []
 values_from NotMask = 0 ∷ []
 
--- the number of operations that this takes
+-- the number of operations that this takes: a search and an update for each value
 abbrev pub start_count : Start → ℕ
-start_count Zero = 0
-start_count One = 2
-start_count Mask = 2
-start_count NotMask = 2
+start_count start = 2 * length (values_from start)

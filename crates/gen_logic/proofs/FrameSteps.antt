@@ -8,6 +8,7 @@ use Rattle.std.specs.Int.{bit_at}
 use Rattle.bit_laws.specs.Numbers.{bit_of}
 use Rattle.micro_ir.specs.Steps.{steps_on, micro, micros}
 use Rattle.micro_ir.specs.declared.op.MicroOp.TheVariants.{Search, Update}
+use Rattle.micro_ir.specs.Folding.{table_keys, first_whole, keys_with}
 use Rattle.micro_ir.specs.Subs.{subs_below, subs_of}
 use Rattle.micro_ir.specs.Pieces.{clear}
 use Rattle.micro_ir.specs.Effects.{Makes}
@@ -23,7 +24,7 @@ use Rattle.micro_ir.specs.Measures.{counts, Measured}
 -- the list of the scalar, as it is written
 pub splat-list : (w scalar : ℕ) → let ones : ℕ → Bool = λ j. ltb j w && bit_of scalar j in
     micros w (splat w scalar) ≡ micro w (clear w scalar_row) ++ (Search (subs_of w ones) [] false ∷ Update (subs_of w ones) scalar_row true ∷ [])
-unfolding micros micro splat
+unfolding micros micro splat table_keys first_whole keys_with
 splat-list w scalar =
     let ones : ℕ → Bool = λ j. ltb j w && bit_of scalar j in
     rw (still w ones) refl

@@ -178,7 +178,17 @@ made-measured w to rows (t ∷ ts) some register =
     }
 
 pub some-values : (kind : Logic) → 0 < length (on_of kind)
-some-values _ = omega arith
+some-values And = omega arith
+some-values Or = omega arith
+some-values Xor = omega arith
+some-values Nand = omega arith
+some-values Nor = omega arith
+some-values Xnor = omega arith
+some-values Andn = omega arith
+some-values Orn = omega arith
+some-values First = omega arith
+some-values Second = omega arith
+some-values Merge = omega arith
 
 pub logic-measured : (kind : Logic) (w a b to : ℕ) → to < 32 → Measured (logic_counts kind) (logic_length kind) (micros w (logic_steps kind w a b to))
 unfolding logic_steps
@@ -206,4 +216,14 @@ logic-parts kind w a b to = refl
 
 -- no list of a kind is longer
 pub length-few : (kind : Logic) → logic_length kind ≤ 11
-length-few _ = omega arith
+length-few And = omega arith
+length-few Or = omega arith
+length-few Xor = omega arith
+length-few Nand = omega arith
+length-few Nor = omega arith
+length-few Xnor = omega arith
+length-few Andn = omega arith
+length-few Orn = omega arith
+length-few First = omega arith
+length-few Second = omega arith
+length-few Merge = omega arith

@@ -9,9 +9,7 @@ ghost use Rattle.gen_logic.specs.Recipes.{inputs_of, on_of, logic_ops, logic_len
 ghost use Rattle.gen_logic.specs.Laws.{RealisesLogic, RealisesLogicBits};
 
 use bit_laws::Width;
-use micro_ir::{
-    MASK_ROW, MicroBuf, Place, RESULT_ROW, emit_clear, emit_commit, emit_everywhere,
-};
+use micro_ir::{MASK_ROW, MicroBuf, Place, RESULT_ROW, emit_clear, emit_commit, emit_everywhere};
 
 // A table reads at most so many rows.
 const MAX_ROWS: usize = 3;
