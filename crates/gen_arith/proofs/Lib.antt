@@ -4,7 +4,7 @@ pub mod Rows
 pub mod Numbers
 pub mod Sums
 pub mod Costs
-pub mod Lists
+pub mod Written
 pub mod Orders
 pub mod Truths
 pub mod Choices

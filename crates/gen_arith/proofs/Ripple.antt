@@ -1,4 +1,4 @@
--- Steps from bit to bit, on one element: of any inputs, for any tables of digits and of carries. 
+-- Steps from bit to bit, on one element: of any inputs, for any tables of digits and of carries.
 use Rattle.std.proofs.Common.{◌≡◌, ◌≢◌, ℕ, ◌+◌, ◌<◌, ◌≤◌, Bool, true, false, ◌||◌, List, [], ◌∷◌, zero, suc, map, refl, sym, ◌∙◌, ap, arith, inl, inr, ⊎_elim}
 use Rattle.std.proofs.lemmas.Bool.{cases_lt, cases_eq, lt-ltb, le-ltb}
 use Rattle.micro_ir.specs.Folding.{has_whole}

@@ -54,7 +54,15 @@ pub fn emit_truth<W: Width>(buf: &mut MicroBuf, at: &Place, kind: Truth)
     emit_clear(buf, TRUTH_ROW);
     emit_start::<W>(buf, truth_start(kind));
     emit_carries::<W>(buf, at.a, at.b, truth_carries(kind));
-    emit_table_at::<W>(buf, at.a, at.b, truth_last(kind), TRUTH_ROW, W::BITS as u8 - 1, 0);
+    emit_table_at::<W>(
+        buf,
+        at.a,
+        at.b,
+        truth_last(kind),
+        TRUTH_ROW,
+        W::BITS as u8 - 1,
+        0,
+    );
 }
 
 /// Appends what puts the lesser or the greater of rows `at.a` and `at.b` into the active elements of

@@ -4,7 +4,7 @@ use Rattle.micro_ir.specs.WorkRows.{result_row, truth_row}
 use Rattle.micro_ir.specs.Pieces.{clear, commit, downs, everywhere}
 use Rattle.gen_arith.specs.Kinds.{truth_tables, order_of, picks_of, truth_ops}
 use Rattle.gen_arith.proofs.Rows.{both-apart, not-work}
-use Rattle.gen_arith.proofs.Lists.{choice-list}
+use Rattle.gen_arith.proofs.Written.{choice-list}
 use Rattle.gen_arith.proofs.Families.{choice-realises, choice-measured}
 use Rattle.gen_arith.proofs.lists.emit_choice.Goals as goal
 

@@ -5,7 +5,7 @@ use Rattle.micro_ir.specs.Pieces.{above, clear, commit}
 use Rattle.gen_arith.specs.Recipes.{ripple}
 use Rattle.gen_arith.specs.Kinds.{sum_tables}
 use Rattle.gen_arith.proofs.Rows.{both-apart}
-use Rattle.gen_arith.proofs.Lists.{sum-list}
+use Rattle.gen_arith.proofs.Written.{sum-list}
 use Rattle.gen_arith.proofs.Families.{sum-realises, sum-measured}
 use Rattle.gen_arith.proofs.lists.emit_sum.Goals as goal
 

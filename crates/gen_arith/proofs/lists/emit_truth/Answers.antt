@@ -5,7 +5,7 @@ use Rattle.micro_ir.specs.Pieces.{above, clear}
 use Rattle.gen_arith.specs.Recipes.{ripple}
 use Rattle.gen_arith.specs.Kinds.{truth_tables}
 use Rattle.gen_arith.proofs.Rows.{both-apart}
-use Rattle.gen_arith.proofs.Lists.{truth-list}
+use Rattle.gen_arith.proofs.Written.{truth-list}
 use Rattle.gen_arith.proofs.Families.{truth-tells, truth-measured}
 use Rattle.gen_arith.proofs.lists.emit_truth.Goals as goal
 

@@ -1,7 +1,7 @@
 use Rattle.std.proofs.Common.{ℕ, ◌+◌, ◌-◌, ◌*◌, ◌<◌, ◌≤◌, [], ◌∷◌, length, sym, append-nil, arith}
 use Rattle.std.proofs.Math.Nat.{mul-le-mul_right}
 use Rattle.micro_ir.specs.WorkRows.{carry_row, result_row, truth_row}
-use Rattle.gen_arith.proofs.Lists.{ripple-none, ripple-carry, one-more}
+use Rattle.gen_arith.proofs.Written.{ripple-none, ripple-carry, one-more}
 use Rattle.gen_arith.proofs.steps.emit_carries.Goals as goal
 
 pub loop-bit-init : goal.loop-bit-init

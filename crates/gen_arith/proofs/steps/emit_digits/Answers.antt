@@ -1,6 +1,6 @@
 use Rattle.std.proofs.Common.{◌≡◌, ℕ, ◌+◌, ◌-◌, ◌<◌, [], ◌∷◌, sym, append-nil, arith}
 use Rattle.micro_ir.specs.WorkRows.{carry_row, result_row, truth_row}
-use Rattle.gen_arith.proofs.Lists.{ripple-none, ripple-more, ripple-last, one-more, two-more}
+use Rattle.gen_arith.proofs.Written.{ripple-none, ripple-more, ripple-last, one-more, two-more}
 use Rattle.gen_arith.proofs.steps.emit_digits.Goals as goal
 
 pub loop-bit-init : goal.loop-bit-init
