@@ -94,7 +94,7 @@ fn emit_marked<W: Width>(cfg: &Cfg, mask: Use, first: u32, at: &Place, buf: &mut
     requires to { at.now.to < 32 }
     requires room { 1 + cond mask.reads 1 0 + length_of mask.list W.BITS ≤ buf.old.spare }
     ensures ops { buf.new.ops ≡ buf.old.ops
-        ++ (window_list cfg.now mask.reads mask.masked first ++ list_at mask.list W.BITS at.now) }
+        ++ window_list cfg.now mask.reads mask.masked first ++ list_at mask.list W.BITS at.now }
     ensures spare { buf.new.spare + (1 + cond mask.reads 1 0 + length_of mask.list W.BITS) ≡ buf.old.spare }
     ensures computes { Computes mask.list W.BITS at.now.a at.now.b at.now.addend at.now.to }
     ensures cost { Measured (counts_of mask.list W.BITS) (length_of mask.list W.BITS) (list_at mask.list W.BITS at.now) }

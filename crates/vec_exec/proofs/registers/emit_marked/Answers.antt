@@ -1,5 +1,5 @@
-use Rattle.std.proofs.Common.{◌∙◌, append_assoc}
+use Rattle.std.proofs.Common.{refl, ◌∙◌}
 use Rattle.vec_exec.proofs.registers.emit_marked.Goals as goal
 
 pub returns-clause-ops : goal.returns-clause-ops
-returns-clause-ops g c = c.emit_list.ensures.ops ∙ rw c.emit_windows.ensures.ops (simp append_assoc)
+returns-clause-ops g c = c.emit_list.ensures.ops ∙ rw c.emit_windows.ensures.ops refl
