@@ -75,6 +75,7 @@ impl Row {
     /// row are 0.
     pub fn words(&self) -> &[u64]
         ensures len { length result.now ≡ words_for (length self.now) }
+        ensures few { length result.now ≤ 32 }
         ensures bits { (k : ℕ) → word_bit result.now k ≡ slice_index_or self.now k false }
     {
         &self.words[..words_of(self.len)]

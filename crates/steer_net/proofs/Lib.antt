@@ -5,3 +5,4 @@ pub mod Mask
 pub mod Spans
 pub mod LaneRows
 pub mod Packed
+pub mod SubarrayRows
