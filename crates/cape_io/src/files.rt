@@ -1,9 +1,9 @@
 // Files over memory.
-ghost use Rattle.std.specs.Prelude.{◌≡◌, ◌<◌, ◌≤◌, ◌↔◌, [], Some, None, drop, take, length, map, true, false, is_some, IfOk, IsErr, IsOk, OnOk, OnErr, string_bytes, Contains};
+ghost use Rattle.std.specs.Prelude.{◌≡◌, ◌<◌, ◌↔◌, ℕ, [], Some, None, drop, take, length, map, true, false, is_some, IfOk, IsErr, IsOk, OnOk, OnErr, string_bytes, Contains};
 ghost use Rattle.std.specs.Io.{ReadsAtMost};
 ghost use Rattle.std.specs.Io.KnownBytes.{Consumes, IsAtEnd, Keeps};
 ghost use Rattle.cape_io.specs.Devices.{Absent, Rose, StartsAt, one_fault_more, word_at};
-ghost use Rattle.cape_io.specs.States.{after_taking, bytes_of, bytes_or_none, next_call, told_of_mem, told_of_sure, FailsOpen, GivesWhatFits, KeepsOthers};
+ghost use Rattle.cape_io.specs.States.{after_taking, bytes_of, bytes_or_none, next_call, known_in_mem, known_in_sure, FailsOpen, GivesWhatFits, KeepsOthers};
 
 use crate::counts::Counts;
 use crate::shelf::Shelf;
@@ -65,7 +65,7 @@ impl<'a> SureFiles<'a> {
 impl<'a> Files for SureFiles<'a> {
     ghost names = { λ s. s.names };
 
-    ghost told = { told_of_sure };
+    ghost known_file = { known_in_sure };
 
     ghost is_open = { λ s. is_some s.left };
 
@@ -83,15 +83,15 @@ impl<'a> Files for SureFiles<'a> {
 
         ensures opened { OnOk result (is_some self.new.left ≡ true) }
         ensures start { OnOk result
-            (StartsAt (told_of_sure self.old (word_at self.old.names place)) self.new.left) }
-        ensures missing { told_of_sure self.old (word_at self.old.names place) ≡ Absent → IsErr result }
+            (StartsAt (known_in_sure self.old (word_at self.old.names place)) self.new.left) }
+        ensures missing { known_in_sure self.old (word_at self.old.names place) ≡ Absent → IsErr result }
         ensures closed { OnErr result (is_some self.new.left ≡ false) }
 
         ensures at { self.new.at ≡ place }
         ensures names { self.new.names ≡ self.old.names }
-        ensures told { told_of_sure self.new ≡ told_of_sure self.old }
+        ensures known_file { known_in_sure self.new ≡ known_in_sure self.old }
 
-        ensures never_falls { 0 ≤ 0 }
+        ensures quiet { OnOk result (◌≡◌ {A = ℕ} 0 0) }
         ensures rose { OnErr result (Rose 0 0) }
 
         ensures sure { IsOk result }
@@ -120,9 +120,9 @@ impl<'a> Files for SureFiles<'a> {
         ensures stays_open { is_some self.new.left ≡ true }
         ensures at { self.new.at ≡ self.old.at }
         ensures names { self.new.names ≡ self.old.names }
-        ensures told { told_of_sure self.new ≡ told_of_sure self.old }
+        ensures known_file { known_in_sure self.new ≡ known_in_sure self.old }
 
-        ensures never_falls { 0 ≤ 0 }
+        ensures quiet { OnOk result (◌≡◌ {A = ℕ} 0 0) }
         ensures rose { OnErr result (Rose 0 0) }
 
         ensures sure { IsOk result }
@@ -204,7 +204,7 @@ impl<'a> MemFiles<'a> {
 impl<'a> Files for MemFiles<'a> {
     ghost names = { λ s. s.names };
 
-    ghost told = { told_of_mem };
+    ghost known_file = { known_in_mem };
 
     ghost is_open = { λ s. is_some s.left };
 
@@ -221,16 +221,16 @@ impl<'a> Files for MemFiles<'a> {
 
         ensures opened { OnOk result (is_some self.new.left ≡ true) }
         ensures start { OnOk result
-            (StartsAt (told_of_mem self.old (word_at self.old.names place)) self.new.left) }
-        ensures missing { told_of_mem self.old (word_at self.old.names place) ≡ Absent → IsErr result }
+            (StartsAt (known_in_mem self.old (word_at self.old.names place)) self.new.left) }
+        ensures missing { known_in_mem self.old (word_at self.old.names place) ≡ Absent → IsErr result }
         ensures closed { OnErr result (is_some self.new.left ≡ false) }
 
         ensures at { self.new.at ≡ place }
         ensures since { self.new.since ≡ self.old.faults }
         ensures names { self.new.names ≡ self.old.names }
-        ensures told { told_of_mem self.new ≡ told_of_mem self.old }
+        ensures known_file { known_in_mem self.new ≡ known_in_mem self.old }
 
-        ensures never_falls { self.old.faults ≤ self.new.faults }
+        ensures quiet { OnOk result (self.new.faults ≡ self.old.faults) }
         ensures rose { OnErr result (Rose self.old.faults self.new.faults) }
 
         ensures fails { IsErr result ↔ FailsOpen self.old place }
@@ -272,9 +272,9 @@ impl<'a> Files for MemFiles<'a> {
         ensures at { self.new.at ≡ self.old.at }
         ensures since { self.new.since ≡ self.old.since }
         ensures names { self.new.names ≡ self.old.names }
-        ensures told { told_of_mem self.new ≡ told_of_mem self.old }
+        ensures known_file { known_in_mem self.new ≡ known_in_mem self.old }
 
-        ensures never_falls { self.old.faults ≤ self.new.faults }
+        ensures quiet { OnOk result (self.new.faults ≡ self.old.faults) }
         ensures rose { OnErr result (Rose self.old.faults self.new.faults) }
 
         ensures fails { IsErr result ↔ Contains self.old.fails self.old.calls }
