@@ -44,11 +44,11 @@ pub record KeepsFaults (d : Devices) : Type 0 where
   pub err : d.new.err.faults ≡ d.old.err.faults
 
 -- These pieces were put into a sink, each after the one before it, and no put failed.
-pub PutsAll : {K : Type 0} → SinkGhosts K → K → List (List ℕ) → K → Type 0
+abbrev pub PutsAll : {K : Type 0} → SinkGhosts K → K → List (List ℕ) → K → Type 0
 PutsAll k old [] new = new ≡ old
 PutsAll {K} k old (piece ∷ rest) new = (mid : K) × k.put_gives old piece true mid × PutsAll k mid rest new
 
--- They were put so up to one that failed, and none after it.
-pub PutsToFault : {K : Type 0} → SinkGhosts K → K → List (List ℕ) → K → Type 0
-PutsToFault k old [] new = ⊥
+-- They were put up to one that failed, and none after it. Where there is none, the sink stays as it was.
+abbrev pub PutsToFault : {K : Type 0} → SinkGhosts K → K → List (List ℕ) → K → Type 0
+PutsToFault k old [] new = new ≡ old
 PutsToFault {K} k old (piece ∷ rest) new = k.put_gives old piece false new ⊎ ((mid : K) × k.put_gives old piece true mid × PutsToFault k mid rest new)

@@ -2,9 +2,9 @@
 use Rattle.std.specs.Prelude.{◌≡◌, ◌≤◌, ℕ, List, length, take, Option, Some}
 use Rattle.std.specs.Io.KnownBytes.{Consumes}
 
--- These bytes were taken of an input, no more than so many. Where it tells its bytes they are the first so many of these,
--- or all that there are.
+-- These bytes were taken of an input, no more than so many. Where its bytes are known they are the first so many of
+-- these, or all that there are.
 pub record Takes (most : ℕ) (left left' : Option (List ℕ)) (taken : List ℕ) : Type 0 where
   pub bound : length taken ≤ most
   pub consumed : Consumes left left' taken
-  pub told : (bytes : List ℕ) → left ≡ Some bytes → taken ≡ take most bytes
+  pub known : (bytes : List ℕ) → left ≡ Some bytes → taken ≡ take most bytes

@@ -34,8 +34,8 @@ fn take_piece<S: Source>(
     ensures ended { IfOk result (λ n. n ≡ 0 → IsAtEnd (S.left input.new)) }
     ensures kept { OnErr result (Keeps (S.left input.old) (S.left input.new)) }
     ensures unchanged { OnErr result (mem.new ≡ mem.old) }
+    ensures quiet { OnOk result (S.faults input.new ≡ S.faults input.old) }
     ensures rose { OnErr result (Rose (S.faults input.old) (S.faults input.new)) }
-    ensures later { S.faults input.old ≤ S.faults input.new }
 {
     let len = buf.len().min(most as usize);
     let piece = &mut buf[..len];
@@ -54,9 +54,9 @@ fn fill<S: Source>(mem: &mut Mem, address: u32, count: u32, input: &mut S) -> Re
         × (length taken < count)
         × Consumes (S.left input.old) (S.left input.new) taken
         × (mem.new ≡ record mem.old { pages = written mem.old.pages address taken })) }
+    ensures quiet { OnOk result (S.faults input.new ≡ S.faults input.old) }
     ensures rose { OnErr result (Rose (S.faults input.old) (S.faults input.new)) }
     ensures stays { count ≡ 0 → input.new ≡ input.old }
-    ensures later { S.faults input.old ≤ S.faults input.new }
 {
     let mut buf = [0u8; PIECE];
     let mut at = address;
@@ -91,9 +91,9 @@ pub(crate) fn read<S: Source>(
         × (mem.new ≡ record mem.old { pages = written mem.old.pages address taken })) }
     ensures allowed { OnErr result (input_of descriptor ≡ true) }
     ensures inside { OnErr result (is_writable mem.old.pages address count ≡ true) }
+    ensures quiet { OnOk result (S.faults input.new ≡ S.faults input.old) }
     ensures rose { OnErr result (Rose (S.faults input.old) (S.faults input.new)) }
     ensures stays { read_count mem.old.pages descriptor address count ≡ 0 → input.new ≡ input.old }
-    ensures later { S.faults input.old ≤ S.faults input.new }
 {
     if !is_input(descriptor) {
         return Ok(BAD_DESCRIPTOR);
