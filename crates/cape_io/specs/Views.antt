@@ -1,5 +1,7 @@
 -- What the devices of a call show before it and after it, as one value.
-use Rattle.std.specs.Prelude.{◌≡◌, ◌⊎◌, ℕ, List, [], ◌∷◌, Option, true, false}
+use Rattle.std.specs.Prelude.{◌≡◌, ◌⊎◌, ℕ, Bool, true, false, List, [], ◌∷◌, Option, MatchBool}
+use Rattle.std.specs.Io.KnownBytes.{Appends}
+use Rattle.cape_io.specs.Devices.{AppendsPrefix, Rose}
 use Rattle.cape_io.specs.declared.devices.Source.{Ghosts as SourceGhosts}
 use Rattle.cape_io.specs.declared.devices.Sink.{Ghosts as SinkGhosts}
 
@@ -42,6 +44,11 @@ pub record KeepsFaults (d : Devices) : Type 0 where
   pub input : d.new.input.faults ≡ d.old.input.faults
   pub out : d.new.out.faults ≡ d.old.out.faults
   pub err : d.new.err.faults ≡ d.old.err.faults
+
+-- These bytes were written to a sink: all of them, where that went; else a prefix of them, and the count of faults rose.
+pub record Writes {K : Type 0} (k : SinkGhosts K) (bytes : List ℕ) (went : Bool) (old new : K) : Type 0 where
+  pub gained : MatchBool went (Appends (k.held old) (k.held new) bytes) (AppendsPrefix (k.held old) (k.held new) bytes)
+  pub counts : MatchBool went (k.faults new ≡ k.faults old) (Rose (k.faults old) (k.faults new))
 
 -- These pieces were put into a sink, each after the one before it, and no put failed.
 abbrev pub PutsAll : {K : Type 0} → SinkGhosts K → K → List (List ℕ) → K → Type 0

@@ -3,11 +3,10 @@ use Rattle.std.proofs.Common.{◌≡◌, ℕ, ◌+◌, ◌-◌, ◌%◌, ◌^◌
 use Rattle.std.specs.Prelude.{is_none, nat_eq, if◌then◌else◌}
 use Rattle.std.specs.Io.KnownBytes.{Appends}
 use Rattle.std.proofs.KnownBytes.{Appends-nil, Appends-trans}
-use Rattle.std.proofs.lemmas.List.{take-append-le, length-append}
-use Rattle.std.proofs.Math.Seq.{take-append-add}
 use Rattle.std.proofs.lemmas.Bool.Decides.{nat_tests}
 use Rattle.cape_io.specs.Devices.{AppendsPrefix}
 use Rattle.cape_io.specs.declared.devices.Sink.{Ghosts}
+use Rattle.cape_io.proofs.Writing.{prefix-more, prefix-first}
 use Rattle.guest_mem.specs.Pages.{Pages, place_of, page_size}
 use Rattle.guest_mem.specs.Ranges.{range_bytes}
 use Rattle.guest_mem.proofs.Ranges.{length-range_bytes}
@@ -46,10 +45,9 @@ module _ {K : Type 0} (k : Ghosts K) where
         stays = nonempty piece rest some;
       }
   written-more a a' piece rest false old mid new parts some gives gained quiet later =
-      let taken = take-append-add piece rest later.gained.0 in
       record {
         pieces = rw parts (inr (mid, gives, later.pieces));
-        gained = (length piece + later.gained.0, simp length-append (omega (arith, later.gained.1)), rw taken (Appends-trans _ _ _ piece (take later.gained.0 rest) gained later.gained.2));
+        gained = prefix-more _ _ _ piece rest gained later.gained;
         counts = tt;
         stays = nonempty piece rest some;
       }
@@ -60,7 +58,7 @@ module _ {K : Type 0} (k : Ghosts K) where
   written-failed a a' piece rest old new parts some gives gained =
       record {
         pieces = rw parts (inl gives);
-        gained = (gained.0, simp length-append (omega (arith, gained.1)), rw (take-append-le gained.0 piece rest gained.1) gained.2);
+        gained = prefix-first _ _ piece rest gained;
         counts = tt;
         stays = nonempty piece rest some;
       }
@@ -90,18 +88,9 @@ module _ (merged : Bool) (descriptor : ℕ) (bytes : List ℕ) where
   to_err-out (inl both) = rw both refl
   to_err-out (inr apart) = rw (apart.0, apart.1) refl
 
-  pub to_err-err : (merged ≡ true) ⊎ ((merged ≡ false) × (descriptor ≡ 2)) → bytes_err merged descriptor bytes ≡ bytes
-  to_err-err (inl both) = rw both refl
-  to_err-err (inr apart) = rw (apart.0, apart.1) refl
-
   pub to_out-err : (merged ≡ false) × (descriptor ≡ 2 → ⊥) → bytes_err merged descriptor bytes ≡ []
   to_out-err apart = rw (apart.0, ne_eqb descriptor 2 apart.1) refl
 
-  pub to_out-out : (merged ≡ false) × (descriptor ≡ 2 → ⊥) → is_output descriptor ≡ true → bytes_out merged descriptor bytes ≡ bytes
-  to_out-out apart allowed =
-      let other : nat_eq descriptor 2 ≡ false = ne_eqb descriptor 2 apart.1 in
-      let first : nat_eq descriptor 1 ≡ true = grind (arith, nat_tests) in
-      rw (apart.0, first) refl
 
 either_way : (b : Bool) (xs : List ℕ) → (if b then xs else xs) ≡ xs
 either_way true xs = refl
