@@ -100,6 +100,28 @@ pub record MemFilesState : Type 0 where
   pub at : ℕ
   pub since : ℕ
 
+-- Files over these words, of which none was added yet and none is open.
+abbrev pub new_files : List (List ℕ) → List ℕ → MemFilesState
+new_files words fails = record { names = words; files = []; left = None; fails = fails; calls = 0; faults = 0; at = 0; since = 0 }
+
+-- The files after an open of the word at a place, which went, and after one that failed.
+abbrev pub after_open : MemFilesState → ℕ → MemFilesState
+after_open files place = record files {
+  left = bytes_of files.files (word_at files.names place);
+  calls = next_call files.calls;
+  at = place;
+  since = files.faults;
+}
+
+abbrev pub after_failed_open : MemFilesState → ℕ → MemFilesState
+after_failed_open files place = record files {
+  left = None;
+  calls = next_call files.calls;
+  faults = one_fault_more files.faults;
+  at = place;
+  since = files.faults;
+}
+
 -- No other name has another file than before.
 abbrev pub KeepsOthers : List (List ℕ × List ℕ) → List (List ℕ × List ℕ) → List ℕ → Type 0
 KeepsOthers old new name = (other : List ℕ) → other ≢ name → bytes_of new other ≡ bytes_of old other

@@ -3,7 +3,7 @@ ghost use Rattle.std.specs.Prelude.{◌≡◌, ◌<◌, ◌↔◌, ℕ, [], Some
 ghost use Rattle.std.specs.Io.{ReadsAtMost};
 ghost use Rattle.std.specs.Io.KnownBytes.{Consumes, IsAtEnd, Keeps};
 ghost use Rattle.cape_io.specs.Devices.{Absent, Rose, StartsAt, one_fault_more, word_at};
-ghost use Rattle.cape_io.specs.States.{after_taking, bytes_of, bytes_or_none, next_call, known_in_mem, known_in_sure, FailsOpen, GivesWhatFits, KeepsOthers};
+ghost use Rattle.cape_io.specs.States.{after_failed_open, after_open, after_taking, bytes_of, bytes_or_none, new_files, next_call, known_in_mem, known_in_sure, FailsOpen, GivesWhatFits, KeepsOthers};
 
 use crate::counts::Counts;
 use crate::shelf::Shelf;
@@ -168,16 +168,7 @@ impl<'a> MemFiles<'a> {
     /// Files over these words, of which none was added yet and none is open. The calls of `open`
     /// and `take` are numbered together from 0, and those whose numbers stand in `fails` fail.
     pub fn new(alloc: Global, words: &'a [String], fails: &[u64]) -> Result<MemFiles<'a>, NoMemory>
-        ensures { IfOk result (λ files. files ≡ record {
-          names = map string_bytes words.now;
-          files = [];
-          left = None;
-          fails = fails.now;
-          calls = 0;
-          faults = 0;
-          at = 0;
-          since = 0;
-        }) }
+        ensures { IfOk result (λ files. files ≡ new_files (map string_bytes words.now) fails.now) }
     {
         Ok(MemFiles {
             words,
@@ -234,19 +225,8 @@ impl<'a> Files for MemFiles<'a> {
         ensures rose { OnErr result (Rose self.old.faults self.new.faults) }
 
         ensures fails { IsErr result ↔ FailsOpen self.old place }
-        ensures ok { OnOk result (self.new ≡ record self.old {
-          left = bytes_of self.old.files (word_at self.old.names place);
-          calls = next_call self.old.calls;
-          at = place;
-          since = self.old.faults;
-        }) }
-        ensures err { OnErr result (self.new ≡ record self.old {
-          left = None;
-          calls = next_call self.old.calls;
-          faults = one_fault_more self.old.faults;
-          at = place;
-          since = self.old.faults;
-        }) }
+        ensures ok { OnOk result (self.new ≡ after_open self.old place) }
+        ensures err { OnErr result (self.new ≡ after_failed_open self.old place) }
     {
         self.at = place;
         self.since = self.counts.faults;

@@ -1,8 +1,8 @@
 // Sinks over memory.
-ghost use Rattle.std.specs.Prelude.{◌≡◌, ◌+◌, ◌%◌, ◌^◌, ◌↔◌, ◌++◌, [], Some, None, true, is_ok, take, length, IfOk, IsErr, IsOk, OnOk, OnErr};
+ghost use Rattle.std.specs.Prelude.{◌≡◌, ◌+◌, ◌%◌, ◌^◌, [], Some, None, true, is_ok, length, IfOk, IsOk, OnOk, OnErr};
 ghost use Rattle.std.specs.Io.KnownBytes.{Appends};
-ghost use Rattle.cape_io.specs.Devices.{AppendsPrefix, Rose, one_fault_more};
-ghost use Rattle.cape_io.specs.States.{appended_count, listed_pair, next_call, FailsPut, PutsInMem};
+ghost use Rattle.cape_io.specs.Devices.{AppendsPrefix, Rose};
+ghost use Rattle.cape_io.specs.States.{listed_pair, PutsInMem};
 
 use crate::counts::Counts;
 use crate::{Failed, Sink};
@@ -136,19 +136,6 @@ impl Sink for MemSink {
             (AppendsPrefix (Some self.old.bytes) (Some self.new.bytes) piece.now) }
         ensures gives { PutsInMem self.old piece.now (is_ok result) self.new }
         ensures rose { OnErr result (Rose self.old.faults self.new.faults) }
-
-        ensures fails { IsErr result ↔ FailsPut self.old (length piece.now) }
-        ensures held { self.new.bytes ≡
-            self.old.bytes ++ take (appended_count self.old (length piece.now)) piece.now }
-        ensures ok { OnOk result (self.new ≡ record self.old {
-          bytes = self.new.bytes;
-          calls = next_call self.old.calls;
-        }) }
-        ensures err { OnErr result (self.new ≡ record self.old {
-          bytes = self.new.bytes;
-          calls = next_call self.old.calls;
-          faults = one_fault_more self.old.faults;
-        }) }
     {
         let call = self.counts.begin();
         let fits = piece.len().min(self.room - self.bytes.len());

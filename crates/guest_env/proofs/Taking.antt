@@ -5,11 +5,7 @@ use Rattle.std.proofs.KnownBytes.{Consumes-nil}
 use Rattle.std.proofs.Math.Seq.{take-append_seam}
 use Rattle.guest_mem.specs.Pages.{Memory, written}
 use Rattle.guest_mem.proofs.Writing.{written-append, written-none}
-use Rattle.guest_env.specs.Inputs.{Takes}
-
--- the memory after bytes are written from an address on
-abbrev pub stored_in : Memory → ℕ → List ℕ → Memory
-stored_in mem a bytes = record mem { pages = written mem.pages a bytes }
+use Rattle.guest_env.specs.Inputs.{stored_in, Takes}
 
 pub stored-none : (mem : Memory) (a : ℕ) → mem ≡ stored_in mem a []
 stored-none mem a = rw (written-none mem.pages a) refl

@@ -7,7 +7,7 @@ use Rattle.cape_io.specs.declared.devices.Sink.{Ghosts as SinkGhosts}
 use Rattle.guest_mem.specs.Pages.{Memory}
 use Rattle.rvv_meaning.specs.declared.Call.{Call}
 use Rattle.rvv_meaning.specs.declared.Call.TheVariants.{Read, Exit}
-use Rattle.rvv_meaning.specs.Calls.{number, named_call, first, second, third, is_output, is_readable, is_writable, exit_code, asked_by, regs_after, memory_after}
+use Rattle.rvv_meaning.specs.Calls.{number, named_call, first, second, third, is_output, is_readable, is_writable, exit_code, asked_by, answer_of, regs_after, memory_after}
 use Rattle.guest_env.specs.declared.answers.EnvFlow.{EnvFlow}
 use Rattle.guest_env.specs.declared.answers.EnvFlow.TheVariants.{Back, Exit as ExitWith}
 use Rattle.guest_env.specs.Inputs.{Takes}
@@ -21,6 +21,15 @@ flow_of call regs = Back
 -- how many bytes the call that the registers ask for asks of the input
 abbrev pub asked : List ℕ → Memory → ℕ
 asked regs mem = asked_by (named_call regs) regs mem
+
+-- A call answered: these bytes were taken of the input, which did not fail, and the answer and the memory are what the
+-- call makes of them.
+pub record HasAnswer {S : Type 0} (s : SourceGhosts S) (call : Call) (regs : List ℕ) (mem mem' : Memory) (input input' : S) (answer : ℕ) : Type 0 where
+  pub taken : List ℕ
+  pub took : Takes (asked_by call regs mem) (s.left input) (s.left input') taken
+  pub quiet : s.faults input' ≡ s.faults input
+  pub answers : answer ≡ answer_of call regs mem taken
+  pub memory : mem' ≡ memory_after call regs mem taken
 
 -- A call went: these bytes were taken of the input, which did not fail, and the registers and the memory are what it
 -- makes of them.

@@ -1,9 +1,8 @@
 // The calls of a guest.
-ghost use Rattle.std.specs.Prelude.{◌≡◌, ◌≢◌, ℕ, List, [], is_ok, OnOk, OnErr, IfOk, IsErrOf};
+ghost use Rattle.std.specs.Prelude.{◌≡◌, ◌≢◌, [], is_ok, OnOk, OnErr, IfOk, IsErrOf};
 ghost use Rattle.rvv_meaning.specs.Calls.{named_call, first, second, asked_by, put_by, answer_of, memory_after, break_after};
-ghost use Rattle.guest_env.specs.Inputs.{Takes};
 ghost use Rattle.guest_env.specs.Outputs.{bytes_out, bytes_err, gained_out, gained_err, IsWritten};
-ghost use Rattle.guest_env.specs.Answers.{flow_of, asked, IsAnswered, FailsReading, FailsWriting};
+ghost use Rattle.guest_env.specs.Answers.{flow_of, asked, HasAnswer, IsAnswered, FailsReading, FailsWriting};
 
 use crate::answers::{EnvFault, EnvFlow, NO_CALL};
 use crate::descriptors::{close, seek};
@@ -77,11 +76,7 @@ fn answer<S: Source, O: Sink, E: Sink>(
     merged: bool,
 ) -> Result<u32, EnvFault>
     requires { call ≡ named_call regs.now }
-    ensures answered { IfOk result (λ answer. (taken : List ℕ)
-        × Takes (asked_by call regs.now mem.old) (S.left input.old) (S.left input.new) taken
-        × (answer ≡ answer_of call regs.now mem.old taken)
-        × (mem.new ≡ memory_after call regs.now mem.old taken)) }
-    ensures quiet { OnOk result (S.faults input.new ≡ S.faults input.old) }
+    ensures answered { IfOk result (λ answer. HasAnswer S.Source call regs.now mem.old mem.new input.old input.new answer) }
     ensures to_out { IsWritten O.Sink (second regs.now) (bytes_out merged (first regs.now) (put_by call regs.now mem.old)) (is_ok result) out.old out.new }
     ensures to_err { IsWritten E.Sink (second regs.now) (bytes_err merged (first regs.now) (put_by call regs.now mem.old)) (is_ok result) err.old err.new }
     ensures read_fault { IsErrOf result EnvFault.ReadFault → FailsReading S.Source regs.now mem.old mem.new input.old input.new }

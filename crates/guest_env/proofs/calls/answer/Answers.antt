@@ -6,7 +6,15 @@ use Rattle.guest_env.proofs.calls.answer.Goals as goal
 
 pub returns-in-Ok-clause-answered : goal.returns-in-Ok-clause-answered
 unfolding asked_by answer_of memory_after
-returns-in-Ok-clause-answered g c = rw (c.in-Read.is, ← c.get-first.ensures.value, ← c.get-second.ensures.value, ← c.get-third.ensures.value) c.in-Ok.ensures.answered
+returns-in-Ok-clause-answered g c =
+    let read = c.in-Ok.ensures.answered in
+    record {
+      taken = read.taken;
+      took = rw (c.in-Read.is, ← c.get-first.ensures.value, ← c.get-second.ensures.value, ← c.get-third.ensures.value) read.took;
+      quiet = c.in-Ok.ensures.quiet;
+      answers = rw (c.in-Read.is, ← c.get-first.ensures.value, ← c.get-second.ensures.value, ← c.get-third.ensures.value) read.answers;
+      memory = rw (c.in-Read.is, ← c.get-second.ensures.value) read.stored;
+    }
 
 pub returns-in-Ok-clause-input_stays : goal.returns-in-Ok-clause-input_stays
 unfolding asked_by
@@ -34,7 +42,13 @@ returns-in-Err-clause-read_fault g c = λ is.
 
 pub returns-in-Ok-write-clause-answered : goal.returns-in-Ok-write-clause-answered
 unfolding asked_by answer_of memory_after
-returns-in-Ok-write-clause-answered g c = rw (c.in-Write.is, ← c.get-first.ensures.value, ← c.get-second.ensures.value, ← c.get-third.ensures.value) ([], takes-none _, c.in-Ok-write.ensures.answer, refl)
+returns-in-Ok-write-clause-answered g c = record {
+  taken = [];
+  took = rw c.in-Write.is (takes-none _);
+  quiet = refl;
+  answers = rw (c.in-Write.is, ← c.get-first.ensures.value, ← c.get-second.ensures.value, ← c.get-third.ensures.value) c.in-Ok-write.ensures.answer;
+  memory = rw c.in-Write.is refl;
+}
 
 pub returns-in-Ok-write-clause-to_out : goal.returns-in-Ok-write-clause-to_out
 unfolding put_by
@@ -78,9 +92,13 @@ pub returns-in-Err-clause-to_err : goal.returns-in-Err-clause-to_err
 returns-in-Err-clause-to_err g c = let here = c.in-Read.is in unwritten-err c.args.call c.args.regs.now c.args.mem.now c.args.merged (λ write. cc) _ _ _ _
 
 pub returns-in_default-clause-answered : goal.returns-in_default-clause-answered
-returns-in_default-clause-answered g c =
-    rw (asked_by-other c.args.call c.args.regs.now c.args.mem.now c.in_default.not-Read)
-    ([], takes-none _, c.answer_alone.ensures.answer, c.answer_alone.ensures.memory)
+returns-in_default-clause-answered g c = record {
+  taken = [];
+  took = rw (asked_by-other c.args.call c.args.regs.now c.args.mem.now c.in_default.not-Read) (takes-none _);
+  quiet = refl;
+  answers = c.answer_alone.ensures.answer;
+  memory = c.answer_alone.ensures.memory;
+}
 
 pub returns-in_default-clause-to_out : goal.returns-in_default-clause-to_out
 returns-in_default-clause-to_out g c = unwritten-out c.args.call c.args.regs.now c.args.mem.now c.args.merged c.in_default.not-Write _ _ _ _
