@@ -10,12 +10,11 @@ use Rattle.cape_io.specs.Views.{Writes}
 
 -- a prefix of what follows a piece, and of a piece that something follows
 pub prefix-more : (old mid new : Option (List ℕ)) (piece rest : List ℕ) → Appends old mid piece → AppendsPrefix mid new rest → AppendsPrefix old new (piece ++ rest)
-prefix-more old mid new piece rest gained prefix =
-    (
-      length piece + prefix.0,
-      simp length-append (omega (arith, prefix.1)),
-      rw (take-append-add piece rest prefix.0) (Appends-trans old mid new piece (take prefix.0 rest) gained prefix.2),
-    )
+prefix-more old mid new piece rest gained prefix = (
+  length piece + prefix.0,
+  simp length-append (omega (arith, prefix.1)),
+  rw (take-append-add piece rest prefix.0) (Appends-trans old mid new piece (take prefix.0 rest) gained prefix.2),
+)
 
 pub prefix-first : (old new : Option (List ℕ)) (piece rest : List ℕ) → AppendsPrefix old new piece → AppendsPrefix old new (piece ++ rest)
 prefix-first old new piece rest prefix =

@@ -1,4 +1,4 @@
-// The real streams and files. They tell no bytes, and count their faults up to the end of the
+// The real streams and files. Of their bytes nothing is known, and they count their faults up to the end of the
 // count. What they move is what the reader or the writer below them moves.
 ghost use Rattle.std.specs.Prelude.{◌≡◌, ◌<◌, None, length, map, string_bytes, take, true, false, is_ok, IfOk, IsErr, OnOk, OnErr};
 ghost use Rattle.std.specs.Io.{ReadsAtMost};
@@ -148,7 +148,7 @@ impl<'a, R: FileSystem> DiskFiles<'a, R> {
     }
 }
 
-// Nothing is told, so what the trait says of bytes says nothing here.
+// Nothing is known of the files, so what the trait says of bytes says nothing here.
 impl<'a, R: FileSystem> Files for DiskFiles<'a, R> {
     ghost names = { λ s. s.names };
 

@@ -17,7 +17,7 @@ pub trait Source {
     /// How often the source has failed.
     ghost faults: { Self → ℕ };
 
-    /// Moves the next bytes into the front of the buffer, and answers how many. 0 into a buffer
+    /// Moves the next bytes to the start of the buffer, and answers how many. 0 into a buffer
     /// that is not empty is the end of the input. At `Failed` nothing was moved.
     fn take(&mut self, buf: &mut [u8]) -> Result<usize, Failed>
         ensures bound { ReadsAtMost result buf.new }

@@ -127,7 +127,7 @@ impl<'a> Files for SureFiles<'a> {
 
         ensures sure { IsOk result }
         ensures count { IfOk result (λ n. GivesWhatFits self.old.left (length buf.old) n) }
-        ensures behind { IfOk result (λ n. drop n buf.new ≡ drop n buf.old) }
+        ensures rest { IfOk result (λ n. drop n buf.new ≡ drop n buf.old) }
         ensures after { IfOk result (λ n.
             self.new ≡ record self.old { left = after_taking n self.old.left }) }
     {
@@ -135,7 +135,7 @@ impl<'a> Files for SureFiles<'a> {
     }
 }
 
-/// Files over memory that fail at the calls that they were told, and where a name has no file.
+/// Files over memory that fail at listed calls, and where a name has no file.
 #[derive(Drop)]
 pub struct MemFiles<'a> {
     words: &'a [String],
@@ -259,7 +259,7 @@ impl<'a> Files for MemFiles<'a> {
 
         ensures fails { IsErr result ↔ Contains self.old.fails self.old.calls }
         ensures count { IfOk result (λ n. GivesWhatFits self.old.left (length buf.old) n) }
-        ensures behind { IfOk result (λ n. drop n buf.new ≡ drop n buf.old) }
+        ensures rest { IfOk result (λ n. drop n buf.new ≡ drop n buf.old) }
         ensures untouched { OnErr result (buf.new ≡ buf.old) }
         ensures ok { IfOk result (λ n. self.new ≡ record self.old {
           left = after_taking n self.old.left;

@@ -56,7 +56,7 @@ impl Sink for SureSink {
     }
 }
 
-/// A sink with room for so many bytes, which fails where it is full and at the puts that it was told.
+/// A sink with room for so many bytes, which fails where it is full and at listed puts.
 #[derive(Drop)]
 pub struct MemSink {
     bytes: Vec<u8>,

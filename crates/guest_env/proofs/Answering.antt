@@ -20,7 +20,7 @@ asked_by-other Close regs mem other = refl
 asked_by-other Seek regs mem other = refl
 asked_by-other Unknown regs mem other = refl
 
--- and one that is no write puts none
+-- and one that is no write writes none
 pub put_by-other : (call : Call) (regs : List ℕ) (mem : Memory) → call ≢ Write → put_by call regs mem ≡ []
 unfolding put_by
 put_by-other Read regs mem other = refl

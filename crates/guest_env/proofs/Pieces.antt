@@ -52,7 +52,7 @@ first-piece-range pages a count len fits some shorter inside ends =
     let rest = range_bytes pages after (count - len) in
     let is = length-range_bytes pages a len in
     let first = first-piece a (range_bytes pages a len) rest fits (omega (arith, is)) (omega (arith, is))
-      (λ more. rw is (ends (omega (arith, length-range_bytes pages after (count - len), more)))) in
+    (λ more. rw is (ends (omega (arith, length-range_bytes pages after (count - len), more)))) in
     rw is at first
 
 -- a range is that part and the rest

@@ -70,13 +70,13 @@ module _ {K : Type 0} (k : Ghosts K) where
     range-more went old mid new gives gained quiet later =
         rw (range-parts pages a count len fits shorter)
         (written-more a ((a + len) % 2 ^ 32) (range_bytes pages a len) (range_bytes pages ((a + len) % 2 ^ 32) (count - len)) went old mid new
-          (first-piece-range pages a count len fits some shorter inside ends) (has-bytes pages a len some) gives gained quiet later)
+        (first-piece-range pages a count len fits some shorter inside ends) (has-bytes pages a len some) gives gained quiet later)
 
     pub range-failed : (old new : K) → k.put_gives old (range_bytes pages a len) false new → AppendsPrefix (k.held old) (k.held new) (range_bytes pages a len) → IsWritten k a (range_bytes pages a count) false old new
     range-failed old new gives gained =
         rw (range-parts pages a count len fits shorter)
         (written-failed a ((a + len) % 2 ^ 32) (range_bytes pages a len) (range_bytes pages ((a + len) % 2 ^ 32) (count - len)) old new
-          (first-piece-range pages a count len fits some shorter inside ends) (has-bytes pages a len some) gives gained)
+        (first-piece-range pages a count len fits some shorter inside ends) (has-bytes pages a len some) gives gained)
 
 -- What is written of some bytes from here on is written of others from there on.
 abbrev pub Continues : {K : Type 0} → Ghosts K → ℕ → List ℕ → K → ℕ → List ℕ → K → Type 0
@@ -90,7 +90,6 @@ module _ (merged : Bool) (descriptor : ℕ) (bytes : List ℕ) where
 
   pub to_out-err : (merged ≡ false) × (descriptor ≡ 2 → ⊥) → bytes_err merged descriptor bytes ≡ []
   to_out-err apart = rw (apart.0, ne_eqb descriptor 2 apart.1) refl
-
 
 either_way : (b : Bool) (xs : List ℕ) → (if b then xs else xs) ≡ xs
 either_way true xs = refl

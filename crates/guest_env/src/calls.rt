@@ -105,7 +105,7 @@ fn answer<S: Source, O: Sink, E: Sink>(
 /// - 63, read(descriptor, address, count): -9 (EBADF) unless the descriptor is 0; then -14 (EFAULT) where the range is not
 ///   wholly writable; else the smaller of `count` and the input left, whose bytes are taken and stored.
 /// - 64, write(descriptor, address, count): -9 unless the descriptor is 1 or 2; then -14 where the range is not wholly
-///   readable; else `count`, after the bytes were put, one piece for each page that the range meets, in the range's own
+///   readable; else `count`, after the bytes were written, one piece for each page that the range meets, in the range's own
 ///   order.
 /// - 93 and 94, exit(code): the guest ends with the low eight bits of the code. The registers stay.
 /// - 214, brk(address): the break becomes the address, where it lies in the heap; the answer is the break after it.
@@ -114,7 +114,7 @@ fn answer<S: Source, O: Sink, E: Sink>(
 /// - Any other number: -38 (ENOSYS).
 ///
 /// A range wraps modulo 2^32, and one of no bytes is wholly readable and writable. A call that is refused moves nothing.
-/// `merged` tells where the bytes of a write go: those on 1 to `out` and those on 2 to `err`, or both to `err` in their
+/// `merged` says where the bytes of a write go: those on 1 to `out` and those on 2 to `err`, or both to `err` in their
 /// order. At a fault the registers are as before; a read's bytes that came before it stand in memory, and a write's in the
 /// sink.
 pub fn call<S: Source, O: Sink, E: Sink>(

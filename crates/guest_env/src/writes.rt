@@ -15,12 +15,7 @@ use guest_mem::{Mem, Perms};
 const PAGE_SIZE: u32 = 4096;
 
 // Writes the bytes of a range, a piece for each page that it meets, in the range's own order.
-fn write_range<K: Sink>(
-    mem: &Mem,
-    address: u32,
-    count: u32,
-    sink: &mut K,
-) -> Result<(), Failed>
+fn write_range<K: Sink>(mem: &Mem, address: u32, count: u32, sink: &mut K) -> Result<(), Failed>
     requires { is_readable mem.now.pages address count ≡ true }
     ensures written { IsWritten K.Sink address (range_bytes mem.now.pages address count) (is_ok result) sink.old sink.new }
     ensures some { OnErr result (0 < count) }

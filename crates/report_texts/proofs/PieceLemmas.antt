@@ -21,13 +21,13 @@ split f i (suc m) n =
     )
 
 -- those from a place on are those before another place, and those from there on
-pub pieces_split : (f : ℕ → List ℕ) (first behind end : ℕ) → first ≤ behind → behind ≤ end
-    → pieces f first (end - first) ≡ flat_map f (range_with_len first (behind - first)) ++ pieces f behind (end - behind)
+pub pieces_split : (f : ℕ → List ℕ) (first after end : ℕ) → first ≤ after → after ≤ end
+    → pieces f first (end - first) ≡ flat_map f (range_with_len first (after - first)) ++ pieces f after (end - after)
 unfolding pieces
-pieces_split f first behind end low high =
-    let e : behind - first + (end - behind) ≡ end - first = omega arith in
-    let e' : first + (behind - first) ≡ behind = omega arith in
-    rw (e, e') at (split f first (behind - first) (end - behind))
+pieces_split f first after end low high =
+    let e : after - first + (end - after) ≡ end - first = omega arith in
+    let e' : first + (after - first) ≡ after = omega arith in
+    rw (e, e') at (split f first (after - first) (end - after))
 
 pub pieces_more : (f : ℕ → List ℕ) (i end : ℕ) → i < end → pieces f i (end - i) ≡ f i ++ pieces f (i + 1) (end - (i + 1))
 unfolding pieces

@@ -109,15 +109,15 @@ fn line_end() -> Line
 }
 
 // The bytes of a vector register from one on and before another.
-fn byte_digits(machine: &Machine, r: u8, first: u32, behind: u32) -> Line
+fn byte_digits(machine: &Machine, r: u8, first: u32, after: u32) -> Line
     requires register { r < 32 }
-    requires order { first ≤ behind }
-    requires end { behind ≤ machine.now.core.csrs.vlen / 8 }
-    requires few { behind ≤ first + 64 }
-    ensures { result.bytes ≡ flat_map (vector_byte machine.now.core r) (range_with_len first (behind - first)) }
+    requires order { first ≤ after }
+    requires end { after ≤ machine.now.core.csrs.vlen / 8 }
+    requires few { after ≤ first + 64 }
+    ensures { result.bytes ≡ flat_map (vector_byte machine.now.core r) (range_with_len first (after - first)) }
 {
     let mut line = Line::new();
-    for j in first..behind {
+    for j in first..after {
         push_byte(&mut line, machine.vreg_byte(r, j));
     }
     line
@@ -131,9 +131,9 @@ fn write_bytes<E: Sink>(machine: &Machine, r: u8, err: &mut E) -> Result<(), Fai
     let bytes = machine.csrs().vlen / BYTE_BITS;
     let mut first = 0;
     while first < bytes {
-        let behind = first + (bytes - first).min(PIECE);
-        write_line(&byte_digits(machine, r, first, behind), err)?;
-        first = behind;
+        let after = first + (bytes - first).min(PIECE);
+        write_line(&byte_digits(machine, r, first, after), err)?;
+        first = after;
     }
     Ok(())
 }
@@ -168,8 +168,8 @@ fn write_vectors<E: Sink>(machine: &Machine, err: &mut E) -> Result<(), Failed>
     Ok(())
 }
 
-/// Writes the place, the registers, the control registers and the vector registers, one a line. It puts no piece of more
-/// than 240 bytes; at `Failed` it put some front of the text.
+/// Writes the place, the registers, the control registers and the vector registers, one a line. No piece has
+/// more than 240 bytes; at `Failed` it wrote some prefix of the text.
 pub fn write_state<E: Sink>(machine: &Machine, err: &mut E) -> Result<(), Failed>
     ensures { Writes E.Sink (state_text machine.now.core) (is_ok result) err.old err.new }
 {

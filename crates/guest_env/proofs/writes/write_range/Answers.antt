@@ -22,7 +22,7 @@ loop-left-preserved g c =
     let len = c.min-len.result in
     record {
       continues = λ went end written. c.loop-left.invariant.continues went end
-        (range-more g.K.Sink pages c.loop-left.at c.loop-left.left len (omega arith) (omega arith) (omega arith) (omega arith) (λ less. omega (arith, less)) went c.loop-left.sink c.put.new.self end
+          (range-more g.K.Sink pages c.loop-left.at c.loop-left.left len (omega arith) (omega arith) (omega arith) (omega arith) (λ less. omega (arith, less)) went c.loop-left.sink c.put.new.self end
           (rw (← c.bytes_in_page.ensures) c.in_ok-put.ensures.gives) (rw (← c.bytes_in_page.ensures) c.in_ok-put.ensures.whole) c.in_ok-put.ensures.quiet written);
       readable = rw (first_bad_rest pages 4 c.loop-left.at len c.loop-left.left (omega arith) (omega arith) (is-none _ c.loop-left.invariant.readable)) refl;
       some = λ more. c.loop-left.invariant.some (omega arith);
@@ -33,8 +33,8 @@ pub returns-in_err-put-clause-written : goal.returns-in_err-put-clause-written
 returns-in_err-put-clause-written g c =
     let p = err_from_is_err_and c.from_residual.result c.from_residual.ensures.1 in
     rw p.1 (c.loop-left.invariant.continues false c.put.new.self
-      (range-failed g.K.Sink c.args.mem.now.pages c.loop-left.at c.loop-left.left c.min-len.result (omega arith) (omega arith) (omega arith) (omega arith) (λ less. omega (arith, less)) c.loop-left.sink c.put.new.self
-        (rw (← c.bytes_in_page.ensures) c.in_err-put.ensures.gives) (rw (← c.bytes_in_page.ensures) c.in_err-put.ensures.prefix)))
+    (range-failed g.K.Sink c.args.mem.now.pages c.loop-left.at c.loop-left.left c.min-len.result (omega arith) (omega arith) (omega arith) (omega arith) (λ less. omega (arith, less)) c.loop-left.sink c.put.new.self
+    (rw (← c.bytes_in_page.ensures) c.in_err-put.ensures.gives) (rw (← c.bytes_in_page.ensures) c.in_err-put.ensures.prefix)))
 
 pub returns-clause-written : goal.returns-clause-written
 returns-clause-written g c =

@@ -14,8 +14,8 @@ loop-first-preserved g c =
     record {
       bound = run.bound;
       continues = λ went end written. c.loop-first.invariant.continues went end
-        (rw (lines_by (map span_of c.args.regions.now) c.loop-first.first c.run_end-behind.result run.later run.bound run.run run.longest)
-        (writes_more g.O.Sink _ _ went _ _ end c.in_ok-write_run.ensures written));
+          (rw (lines_by (map span_of c.args.regions.now) c.loop-first.first c.run_end-behind.result run.later run.bound run.run run.longest)
+          (writes_more g.O.Sink _ _ went _ _ end c.in_ok-write_run.ensures written));
     }
 
 pub returns-in_err-write_run : goal.returns-in_err-write_run
@@ -23,8 +23,8 @@ returns-in_err-write_run g c =
     let run = c.run_end-behind.ensures in
     let p = err_from_is_err_and c.from_residual.result c.from_residual.ensures.1 in
     rw p.1 (c.loop-first.invariant.continues false _
-      (rw (lines_by (map span_of c.args.regions.now) c.loop-first.first c.run_end-behind.result run.later run.bound run.run run.longest)
-      (writes_stopped g.O.Sink _ _ _ _ c.in_err-write_run.ensures)))
+    (rw (lines_by (map span_of c.args.regions.now) c.loop-first.first c.run_end-behind.result run.later run.bound run.run run.longest)
+    (writes_stopped g.O.Sink _ _ _ _ c.in_err-write_run.ensures)))
 
 pub returns : goal.returns
 returns g c =

@@ -17,8 +17,8 @@ loop-first-preserved g c =
     record {
       bound = omega arith;
       continues = λ went end written. c.loop-first.invariant.continues went end
-        (rw (pieces_split f c.loop-first.first (c.loop-first.first + c.min.result) (c.csrs.result.now.vlen / 8) (omega arith) (omega arith))
-        (writes_more g.E.Sink _ _ went _ _ end (rw c.byte_digits.ensures at c.in_ok-write_line.ensures) written));
+          (rw (pieces_split f c.loop-first.first (c.loop-first.first + c.min.result) (c.csrs.result.now.vlen / 8) (omega arith) (omega arith))
+          (writes_more g.E.Sink _ _ went _ _ end (rw c.byte_digits.ensures at c.in_ok-write_line.ensures) written));
     }
 
 pub returns-in_err-write_line : goal.returns-in_err-write_line
@@ -26,8 +26,8 @@ returns-in_err-write_line g c =
     let f = vector_byte c.args.machine.now.core c.args.r in
     let p = err_from_is_err_and c.from_residual.result c.from_residual.ensures.1 in
     rw p.1 (c.loop-first.invariant.continues false _
-      (rw (pieces_split f c.loop-first.first (c.loop-first.first + c.min.result) (c.csrs.result.now.vlen / 8) (omega arith) (omega arith))
-      (writes_stopped g.E.Sink _ _ _ _ (rw c.byte_digits.ensures at c.in_err-write_line.ensures))))
+    (rw (pieces_split f c.loop-first.first (c.loop-first.first + c.min.result) (c.csrs.result.now.vlen / 8) (omega arith) (omega arith))
+    (writes_stopped g.E.Sink _ _ _ _ (rw c.byte_digits.ensures at c.in_err-write_line.ensures))))
 
 pub returns : goal.returns
 returns g c =

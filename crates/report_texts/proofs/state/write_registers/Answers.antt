@@ -14,7 +14,7 @@ loop-r-preserved g c =
     let f = register_line c.args.machine.now.core in
     record {
       continues = λ went end written. c.loop-r.invariant.continues went end
-        (rw (pieces_more f c.loop-r.r 32 (omega arith)) (writes_more g.E.Sink (f c.loop-r.r) _ went _ _ end (rw c.register_line.ensures at c.in_ok-write_line.ensures) written));
+          (rw (pieces_more f c.loop-r.r 32 (omega arith)) (writes_more g.E.Sink (f c.loop-r.r) _ went _ _ end (rw c.register_line.ensures at c.in_ok-write_line.ensures) written));
     }
 
 pub returns-in_err-write_line : goal.returns-in_err-write_line
@@ -22,7 +22,7 @@ returns-in_err-write_line g c =
     let f = register_line c.args.machine.now.core in
     let p = err_from_is_err_and c.from_residual.result c.from_residual.ensures.1 in
     rw p.1 (c.loop-r.invariant.continues false _
-      (rw (pieces_more f c.loop-r.r 32 (omega arith)) (writes_stopped g.E.Sink (f c.loop-r.r) _ _ _ (rw c.register_line.ensures at c.in_err-write_line.ensures))))
+    (rw (pieces_more f c.loop-r.r 32 (omega arith)) (writes_stopped g.E.Sink (f c.loop-r.r) _ _ _ (rw c.register_line.ensures at c.in_err-write_line.ensures))))
 
 pub returns : goal.returns
 returns g c =

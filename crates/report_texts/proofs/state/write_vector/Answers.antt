@@ -12,9 +12,9 @@ pub returns-in_err-write_bytes : goal.returns-in_err-write_bytes
 returns-in_err-write_bytes g c =
     let p = err_from_is_err_and c.from_residual-in_err-write_bytes.result c.from_residual-in_err-write_bytes.ensures.1 in
     rw p.1 (writes_more g.E.Sink _ _ false _ _ _ (rw c.vector_name.ensures at c.in_ok-write_line.ensures)
-      (writes_stopped g.E.Sink _ _ _ _ c.in_err-write_bytes.ensures))
+    (writes_stopped g.E.Sink _ _ _ _ c.in_err-write_bytes.ensures))
 
 pub returns : goal.returns
 returns g c =
     writes_more g.E.Sink _ _ _ _ _ _ (rw c.vector_name.ensures at c.in_ok-write_line.ensures)
-      (writes_more g.E.Sink _ _ _ _ _ _ c.in_ok-write_bytes.ensures (rw c.line_end.ensures at c.write_line-2.ensures))
+    (writes_more g.E.Sink _ _ _ _ _ _ c.in_ok-write_bytes.ensures (rw c.line_end.ensures at c.write_line-2.ensures))

@@ -14,7 +14,7 @@ loop-r-preserved g c =
     let f = vector_line c.args.machine.now.core in
     record {
       continues = λ went end written. c.loop-r.invariant.continues went end
-        (rw (pieces_more f c.loop-r.r 32 (omega arith)) (writes_more g.E.Sink (f c.loop-r.r) _ went _ _ end (c.in_ok-write_vector.ensures) written));
+          (rw (pieces_more f c.loop-r.r 32 (omega arith)) (writes_more g.E.Sink (f c.loop-r.r) _ went _ _ end (c.in_ok-write_vector.ensures) written));
     }
 
 pub returns-in_err-write_vector : goal.returns-in_err-write_vector
@@ -22,7 +22,7 @@ returns-in_err-write_vector g c =
     let f = vector_line c.args.machine.now.core in
     let p = err_from_is_err_and c.from_residual.result c.from_residual.ensures.1 in
     rw p.1 (c.loop-r.invariant.continues false _
-      (rw (pieces_more f c.loop-r.r 32 (omega arith)) (writes_stopped g.E.Sink (f c.loop-r.r) _ _ _ (c.in_err-write_vector.ensures))))
+    (rw (pieces_more f c.loop-r.r 32 (omega arith)) (writes_stopped g.E.Sink (f c.loop-r.r) _ _ _ (c.in_err-write_vector.ensures))))
 
 pub returns : goal.returns
 returns g c =
