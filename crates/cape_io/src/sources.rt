@@ -138,7 +138,6 @@ impl Source for MemSource {
         ensures ended { IfOk result (λ n.
             n ≡ 0 → 0 < length buf.new → IsAtEnd (Some self.new.left)) }
         ensures kept { OnErr result (Keeps (Some self.old.left) (Some self.new.left)) }
-        ensures never_falls { self.old.faults ≤ self.new.faults }
         ensures rose { OnErr result (Rose self.old.faults self.new.faults) }
 
         ensures fails { IsErr result ↔ Contains self.old.fails self.old.calls }

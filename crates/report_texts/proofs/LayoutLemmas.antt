@@ -1,16 +1,13 @@
--- What the text about the layout of an image rests on: digits, pages, edges, runs and what was put.
+-- What the text about the layout of an image rests on: digits, pages, edges and runs.
 use Rattle.std.proofs.Common.{◌≡◌, ℕ, zero, suc, ◌+◌, ◌-◌, ◌/◌, ◌%◌, ◌^◌, ◌<◌, ◌≤◌, min, Bool, true, false, List, [], ◌∷◌, ◌++◌, length, take, drop, map, get_or, Option, Some, None, Result, Ok, Err, OnErr, refl, sym, ap, ◌∙◌, subst, append_assoc, append-nil, arith, ◌==◌, bit_or, bit_and, inl, inr, ◌⊎◌}
 use Rattle.std.specs.Prelude.{◌||◌, if◌then◌else◌}
-use Rattle.std.proofs.Math.Seq.{take-append-add}
 use Rattle.std.proofs.lemmas.Nat.{pow_pos}
 use Rattle.std.specs.Int.Bits.{or_zero_r}
 use Rattle.std.proofs.lemmas.Nat.Bits.{same_from_bits, bit_at_or, and_pow}
 use Rattle.std.proofs.lemmas.Bool.Decides.{nat_tests}
-use Rattle.std.proofs.lemmas.List.{at_drop_more, drop_all, take-append-le, length-append}
+use Rattle.std.proofs.lemmas.List.{at_drop_more, drop_all}
 use Rattle.std.proofs.lemmas.List.Elements.{All-more, All-weaker, All-map, All-head, All-tail}
 use Rattle.std.specs.List.{All, list_any}
-use Rattle.std.specs.Io.KnownBytes.{Appends}
-use Rattle.cape_io.specs.Devices.{PutsFront}
 use Rattle.guest_mem.specs.declared.regions.Region.{Region}
 use Rattle.bit_laws.specs.Digits.{hex_word}
 use Rattle.elf_load.specs.declared.spans.Span.{Span}
@@ -147,31 +144,20 @@ lines_of_run ss first k n run ends =
     let e' : first + 1 + k ≡ first + suc k = omega arith in
     rw e (lines_through ss first (first + 1) k n (λ other from to. run.same other (omega arith) (omega arith)) ∙ ap (λ page. lines_from ss first page n) e' ∙ lines_at_end ss first (first + suc k) n ends)
 
--- ---- what was put
-
--- bytes that were gained, and then more
-pub appends_more : (first mid last : Option (List ℕ)) (xs ys : List ℕ) → Appends first mid xs → Appends mid last ys → Appends first last (xs ++ ys)
-appends_more None mid last xs ys a b = tt
-appends_more (Some f) None last xs ys a b = absurd a
-appends_more (Some f) (Some m) None xs ys a b = absurd b
-appends_more (Some f) (Some m) (Some l) xs ys a b = rw (b, a) (append_assoc f xs ys)
-
--- what was put before the line of a run, where the pages from `first` on are left
-pub record HasPut (ss : List Span) (first : ℕ) (before now : Option (List ℕ)) : Type 0 where
-  pub done : List ℕ
-  pub put : Appends before now done
-  pub whole : done ++ lines_left ss first (page_numbers - first) ≡ map_lines ss
-
-appends_none : (held : Option (List ℕ)) → Appends held held []
-appends_none None = tt
-appends_none (Some bytes) = sym (append-nil bytes)
-
-pub has_put_none : (ss : List Span) (held : Option (List ℕ)) → HasPut ss 0 held held
+-- all lines are those of the pages from the first on
+pub lines-whole : (ss : List Span) → lines_left ss 0 (page_numbers - 0) ≡ map_lines ss
 unfolding map_lines lines_left
-has_put_none ss held = record { done = []; put = appends_none held; whole = refl }
+lines-whole ss = refl
 
--- the lines from a run on, by how many pages it has and how many are behind it
-lines_by : (ss : List Span) (first behind : ℕ) → first < behind → behind ≤ page_numbers → IsRun ss first behind
+-- no line is left where no page is
+pub lines-none : (ss : List Span) (first : ℕ) → page_numbers ≤ first → lines_left ss first (page_numbers - first) ≡ []
+unfolding lines_left
+lines-none ss first end =
+    let none : page_numbers - first ≡ 0 = omega arith in
+    rw none refl
+
+-- the lines from a run on, by how many pages it has and how many are after it
+pub lines_by : (ss : List Span) (first behind : ℕ) → first < behind → behind ≤ page_numbers → IsRun ss first behind
     → (behind < page_numbers → same_perms (perms_of ss behind) (perms_of ss first) ≡ false)
     → lines_left ss first (page_numbers - first) ≡ line_of_run (perms_of ss first) first behind ++ lines_left ss behind (page_numbers - behind)
 lines_by ss first behind some within run longest =
@@ -179,50 +165,3 @@ lines_by ss first behind some within run longest =
     let e : first + suc k ≡ behind = omega arith in
     let e' : suc k + (page_numbers - behind) ≡ page_numbers - first = omega arith in
     rw (e, e') at (lines_of_run ss first k (page_numbers - behind) (rw e run) (λ more. rw e (longest (omega arith))))
-
-pub has_put_more : (ss : List Span) (first behind : ℕ) (before mid now : Option (List ℕ)) → first < behind → behind ≤ page_numbers → IsRun ss first behind
-    → (behind < page_numbers → same_perms (perms_of ss behind) (perms_of ss first) ≡ false)
-    → HasPut ss first before mid → Appends mid now (line_of_run (perms_of ss first) first behind) → HasPut ss behind before now
-has_put_more ss first behind before mid now some within run longest had line =
-    record {
-      done = had.done ++ line_of_run (perms_of ss first) first behind;
-      put = appends_more before mid now had.done (line_of_run (perms_of ss first) first behind) had.put line;
-      whole = append_assoc had.done (line_of_run (perms_of ss first) first behind) (lines_left ss behind (page_numbers - behind)) ∙ ap (λ rest. had.done ++ rest) (sym (lines_by ss first behind some within run longest)) ∙ had.whole;
-    }
-
-pub has_put_all : (ss : List Span) (first : ℕ) (before now : Option (List ℕ)) → page_numbers ≤ first → HasPut ss first before now → Appends before now (map_lines ss)
-unfolding lines_left
-has_put_all ss first before now end had =
-    let e : page_numbers - first ≡ 0 = omega arith in
-    let whole : had.done ≡ map_lines ss = sym (append-nil had.done) ∙ rw e at had.whole in
-    rw (← whole) had.put
-
--- a front of a piece that follows what was put is a front of the whole
-pub puts_front_more : (before mid now : Option (List ℕ)) (done piece rest whole : List ℕ) → Appends before mid done → PutsFront mid now piece → done ++ (piece ++ rest) ≡ whole
-    → PutsFront before now whole
-puts_front_more before mid now done piece rest whole had front is =
-    let n : ℕ = front.0 in
-    let short : n ≤ length piece = front.1 in
-    let e : take (length done + n) (done ++ (piece ++ rest)) ≡ done ++ take n piece = take-append-add done (piece ++ rest) n ∙ ap (λ xs. done ++ xs) (take-append-le n piece rest short) in
-    let long : length (done ++ (piece ++ rest)) ≡ length done + (length piece + length rest) = length-append done (piece ++ rest) ∙ ap (λ k. length done + k) (length-append piece rest) in
-    rw (← is) (length done + n, omega (arith, long), rw e (appends_more before mid now done (take n piece) had front.2))
-
-pub has_put_front : (ss : List Span) (first behind : ℕ) (before mid now : Option (List ℕ)) → first < behind → behind ≤ page_numbers → IsRun ss first behind
-    → (behind < page_numbers → same_perms (perms_of ss behind) (perms_of ss first) ≡ false)
-    → HasPut ss first before mid → PutsFront mid now (line_of_run (perms_of ss first) first behind) → PutsFront before now (map_lines ss)
-has_put_front ss first behind before mid now some within run longest had front =
-    puts_front_more before mid now had.done (line_of_run (perms_of ss first) first behind) (lines_left ss behind (page_numbers - behind)) (map_lines ss) had.put front
-    (ap (λ rest. had.done ++ rest) (sym (lines_by ss first behind some within run longest)) ∙ had.whole)
-
--- a front of the first piece is a front of the whole
-pub puts_front_first : (before now : Option (List ℕ)) (piece rest : List ℕ) → PutsFront before now piece → PutsFront before now (piece ++ rest)
-puts_front_first before now piece rest front = puts_front_more before before now [] piece rest (piece ++ rest) (appends_none before) front refl
-
--- a whole piece and a front of the last one
-pub puts_front_last : (before mid now : Option (List ℕ)) (piece last : List ℕ) → Appends before mid piece → PutsFront mid now last → PutsFront before now (piece ++ last)
-puts_front_last before mid now piece last had front = puts_front_more before mid now piece last [] (piece ++ last) had front (ap (λ rest. piece ++ rest) (append-nil last))
-
--- what holds anyway holds at an error
-pub on_err : {T E P : Type 0} (r : Result T E) → P → OnErr r P
-on_err (Ok x) p = tt
-on_err (Err e) p = p

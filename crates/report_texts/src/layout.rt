@@ -1,13 +1,12 @@
 // The text about the layout of an image: its entry, and its pages.
-ghost use Rattle.std.specs.Prelude.{◌≡◌, ◌+◌, ◌-◌, ◌/◌, ◌<◌, ◌≤◌, ◌++◌, false, if◌then◌else◌, map, OnOk, OnErr};
+ghost use Rattle.std.specs.Prelude.{◌≡◌, ◌+◌, ◌-◌, ◌/◌, ◌<◌, ◌≤◌, ◌++◌, false, if◌then◌else◌, map, is_ok};
 ghost use Rattle.std.specs.Option.{option_map};
-ghost use Rattle.std.specs.Io.KnownBytes.{Appends};
 ghost use Rattle.arrayvec.specs.ArrayString.{array_string_len};
-ghost use Rattle.cape_io.specs.Devices.{PutsFront, Rose};
+ghost use Rattle.cape_io.specs.Views.{Writes};
 ghost use Rattle.elf_load.specs.Layout.{span_of, is_mapped, meets, page_perms, page_size, page_numbers};
 ghost use Rattle.report_texts.specs.Layouts.{perms_of, same_perms, letters, entry_line, map_line, line_of_run, map_lines, layout_text, IsSteady, IsRun};
 
-use crate::text::{Line, push_hex};
+use crate::text::{Line, push_hex, write_line};
 use bitflags::Flags;
 use cape_io::{Failed, Sink};
 use guest_mem::{Perms, Region};
@@ -171,58 +170,43 @@ fn entry_line(entry: u32) -> Line
     line
 }
 
-// Puts the line about the entry.
-fn put_entry<O: Sink>(entry: u32, out: &mut O) -> Result<(), Failed>
-    ensures whole { OnOk result (Appends (O.held out.old) (O.held out.new) (entry_line entry)) }
-    ensures front { OnErr result (PutsFront (O.held out.old) (O.held out.new) (entry_line entry)) }
-    ensures cause { OnErr result (Rose (O.faults out.old) (O.faults out.new)) }
-    ensures later { O.faults out.old ≤ O.faults out.new }
-{
-    out.put(entry_line(entry).as_str().as_bytes())
-}
-
-// Puts the line of a run of pages, if they are mapped.
-fn put_run<O: Sink>(regions: &[Region], first: u32, behind: u32, out: &mut O) -> Result<(), Failed>
+// Writes the line of a run of pages, if they are mapped.
+#[tactic(auto, using(cape_io::proofs::Writing::writes_none))]
+fn write_run<O: Sink>(
+    regions: &[Region],
+    first: u32,
+    behind: u32,
+    out: &mut O,
+) -> Result<(), Failed>
     requires start { first < page_numbers }
     requires end { behind ≤ page_numbers }
-    ensures whole { OnOk result (Appends (O.held out.old) (O.held out.new)
-        (line_of_run (perms_of (map span_of regions.now) first) first behind)) }
-    ensures front { OnErr result (PutsFront (O.held out.old) (O.held out.new)
-        (line_of_run (perms_of (map span_of regions.now) first) first behind)) }
-    ensures cause { OnErr result (Rose (O.faults out.old) (O.faults out.new)) }
-    ensures later { O.faults out.old ≤ O.faults out.new }
+    ensures { Writes O.Sink (line_of_run (perms_of (map span_of regions.now) first) first behind) (is_ok result) out.old out.new }
 {
     match perms_at(regions, first) {
-        Some(perms) => out.put(map_line(first, behind, perms).as_str().as_bytes()),
+        Some(perms) => write_line(&map_line(first, behind, perms), out),
         None => Ok(()),
     }
 }
 
-// Puts the lines of all runs, in rising order.
-fn put_maps<O: Sink>(regions: &[Region], out: &mut O) -> Result<(), Failed>
-    ensures whole { OnOk result (Appends (O.held out.old) (O.held out.new) (map_lines (map span_of regions.now))) }
-    ensures front { OnErr result (PutsFront (O.held out.old) (O.held out.new) (map_lines (map span_of regions.now))) }
-    ensures cause { OnErr result (Rose (O.faults out.old) (O.faults out.new)) }
-    ensures later { O.faults out.old ≤ O.faults out.new }
+// Writes the lines of all runs, in rising order.
+fn write_maps<O: Sink>(regions: &[Region], out: &mut O) -> Result<(), Failed>
+    ensures { Writes O.Sink (map_lines (map span_of regions.now)) (is_ok result) out.old out.new }
 {
     let mut first = 0;
     while first < PAGES {
         let behind = run_end(regions, first);
-        put_run(regions, first, behind, out)?;
+        write_run(regions, first, behind, out)?;
         first = behind;
     }
     Ok(())
 }
 
-/// Puts `ok entry X`, and then a line `map X X rwx` for each longest run of neighbouring pages of equal permissions, in
-/// rising order. The second number is the end, which is not of the run. It puts a piece for each line; at `Failed` it put
-/// some front of the text.
-pub fn put_layout<O: Sink>(entry: u32, regions: &[Region], out: &mut O) -> Result<(), Failed>
-    ensures whole { OnOk result (Appends (O.held out.old) (O.held out.new) (layout_text entry (map span_of regions.now))) }
-    ensures front { OnErr result (PutsFront (O.held out.old) (O.held out.new) (layout_text entry (map span_of regions.now))) }
-    ensures cause { OnErr result (Rose (O.faults out.old) (O.faults out.new)) }
-    ensures later { O.faults out.old ≤ O.faults out.new }
+/// Writes `ok entry X`, and then a line `map X X rwx` for each longest run of neighbouring pages of equal permissions,
+/// in rising order. The second number is the end, which is not of the run. It puts a piece for each line; at `Failed` it
+/// wrote some prefix of the text.
+pub fn write_layout<O: Sink>(entry: u32, regions: &[Region], out: &mut O) -> Result<(), Failed>
+    ensures { Writes O.Sink (layout_text entry (map span_of regions.now)) (is_ok result) out.old out.new }
 {
-    put_entry(entry, out)?;
-    put_maps(regions, out)
+    write_line(&entry_line(entry), out)?;
+    write_maps(regions, out)
 }
