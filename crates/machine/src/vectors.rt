@@ -1,5 +1,6 @@
 // Vector instructions: configurations, and programs of micro-operations.
 ghost use Rattle.std.specs.Prelude.{◌≡◌, ◌+◌, ◌<◌, ◌≤◌, ◌^◌, ℕ, List, [], Some, true, length, IsTrue, Bool, Option};
+ghost use Rattle.cape_io.specs.Views.{DeviceViews};
 ghost use Rattle.cam_chain.specs.ChainValue.{slices_of};
 ghost use Rattle.rvv_meaning.specs.declared.Meaning.TheVariants.{Vector};
 ghost use Rattle.rvv_meaning.specs.declared.Next.TheVariants.{Perform};
@@ -10,7 +11,7 @@ ghost use Rattle.rvv_meaning.specs.States.{next, cfg_at, executed_vector};
 ghost use Rattle.rvv_meaning.specs.Vectors.{length_asked, length_of_register, setting_asked, scalar_operand, is_on_elements};
 ghost use Rattle.machine.specs.Fields.{VectorFits};
 ghost use Rattle.machine.specs.Moments.{program_for, slices_by, counts_by, control_by};
-ghost use Rattle.machine.specs.Carrying.{Carries};
+ghost use Rattle.machine.specs.Carrying.{CarriesTaking};
 
 use crate::parts::{CLEARED, Machine, WORD_BYTES};
 use micro_ir::replay;
@@ -130,7 +131,7 @@ impl Machine {
         requires there { next self.old.core ≡ Perform (Vector i.now) }
         requires empty { self.old.last ≡ [] }
         requires count { self.old.core.csrs.retired < 2 ^ 63 }
-        ensures carries { (merged : Bool) (left out err : Option (List ℕ)) → Carries merged self.old self.new [] left left out out err err }
+        ensures carries { (v : DeviceViews) → CarriesTaking self.old self.new [] (record { old = v; new = v }) }
         ensures count { self.new.core.csrs.retired ≤ self.old.core.csrs.retired + 1 }
         ensures length { self.new.core.csrs.vlen ≡ self.old.core.csrs.vlen }
     {
