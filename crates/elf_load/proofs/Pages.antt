@@ -48,8 +48,8 @@ is_added-outside ss s page e = and_left _ _ e
 is_added-before : (ss : List Span) (s : Span) (page : ℕ) → page < first_page s → is_added ss s page ≡ false
 is_added-before ss s page low = is_added-outside ss s page (false_from_ne_true (meets page s) (λ met. let m = IsMet-from_meets page s met in let from : first_page s ≤ page = m.from in omega arith))
 
-is_added-behind : (ss : List Span) (s : Span) (page : ℕ) → last_page s < page → is_added ss s page ≡ false
-is_added-behind ss s page high = is_added-outside ss s page (false_from_ne_true (meets page s) (λ met. let m = IsMet-from_meets page s met in let to : page ≤ last_page s = m.to in omega arith))
+is_added-after : (ss : List Span) (s : Span) (page : ℕ) → last_page s < page → is_added ss s page ≡ false
+is_added-after ss s page high = is_added-outside ss s page (false_from_ne_true (meets page s) (λ met. let m = IsMet-from_meets page s met in let to : page ≤ last_page s = m.to in omega arith))
 
 is_added-met : (ss : List Span) (s : Span) (page : ℕ) → IsMet page s → is_added ss s page ≡ not (is_mapped ss page)
 is_added-met ss s page m = rw (meets-from_IsMet page s m) refl
@@ -63,7 +63,7 @@ pub pages_added-one : (ss : List Span) (s : Span) → 0 < s.len → s.start + s.
 unfolding pages_added
 pages_added-one ss s some fits same =
     count_below-is page_numbers (is_added ss s)
-    ∙ count_from-single (is_added ss s) (first_page s) page_numbers (omega arith) (λ page low. is_added-before ss s page low) (λ page high. is_added-behind ss s page (omega arith))
+    ∙ count_from-single (is_added ss s) (first_page s) page_numbers (omega arith) (λ page low. is_added-before ss s page low) (λ page high. is_added-after ss s page (omega arith))
     ∙ ap one_if (is_added-met ss s (first_page s) (record { has_bytes = some; from = omega arith; to = omega arith }))
 
 pub pages_added-more : (ss : List Span) (s : Span) → 0 < s.len → s.start + s.len ≤ 2 ^ 32 → first_page s < last_page s → list_all (λ a. apart a s) ss ≡ true
@@ -74,7 +74,7 @@ pages_added-more ss s some fits rising free =
     let last_is = is_added-met ss s (last_page s) (record { has_bytes = some; from = omega arith; to = omega arith }) in
     count_below-is page_numbers (is_added ss s)
     ∙ count_from-ends (is_added ss s) (first_page s) (last_page s) page_numbers rising (omega arith)
-    (λ page low. is_added-before ss s page low) (λ page high. is_added-behind ss s page high)
+    (λ page low. is_added-before ss s page low) (λ page high. is_added-after ss s page high)
     (λ page low high. is_added-met ss s page (record { has_bytes = some; from = omega arith; to = omega arith }) ∙ ap not (is_mapped-inside page ss s free low high))
     ∙ ap (λ ends. (last_page s - first_page s - 1) + ends) (ap (λ b. one_if b + one_if (is_added ss s (last_page s))) first_is ∙ ap (λ b. one_if (not (is_mapped ss (first_page s))) + one_if b) last_is)
 

@@ -40,11 +40,11 @@ highest_end (h ∷ hs) = max (end_of h) (highest_end hs)
 abbrev pub rounded_up : ℕ → ℕ
 rounded_up n = (n + (page_size - 1)) / page_size * page_size
 
--- the first page's start behind all segments
+-- the first page's start after all segments
 unfoldable pub start_behind : List Header → ℕ
 start_behind hs = rounded_up (highest_end hs)
 
--- the heap starts behind all segments, at a page's start
+-- the heap starts after all segments, at a page's start
 unfoldable pub heap_start : List ℕ → ℕ
 heap_start image = start_behind (segments image)
 

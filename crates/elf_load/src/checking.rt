@@ -13,7 +13,7 @@ use crate::segment_faults::segment_fault;
 use arrayvec::ArrayVec;
 use guest_mem::Span;
 
-/// What is to be laid out of an image: its segments, and the heap behind them.
+/// What is to be laid out of an image: its segments, and the heap after them.
 #[derive(Drop)]
 pub struct Plan {
     pub segments: ArrayVec<Header, HEADER_LIMIT>,

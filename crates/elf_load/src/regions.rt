@@ -9,7 +9,7 @@ use crate::layout::{segment_span_of, stack};
 use guest_mem::{ByteList, Region, Span};
 use std::alloc::{AllocError, Global};
 
-// The bytes that the file holds of a segment. A segment without bytes may name a place behind the end of the file.
+// The bytes that the file holds of a segment. A segment without bytes may name a place after the end of the file.
 fn bytes_of<'a>(image: &'a [u8], header: &Header) -> &'a [u8]
     requires { 0 < header.now.filesz → header.now.offset + header.now.filesz ≤ length image.now }
     ensures { result.now ≡ segment_bytes image.now header.now }

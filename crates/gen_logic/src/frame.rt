@@ -1,4 +1,4 @@
-// The lists of the frame: the scalar in every element, and ones in the free elements.
+// The lists of the frame: the scalar in every element, and ones in the agnostic elements.
 ghost use Rattle.std.specs.Prelude.{◌≡◌, ℕ, ◌+◌, ◌<◌, ◌≤◌, cond, ◌&&◌, true, false, eqb, [], ◌∷◌, ◌++◌};
 ghost use lib.Dec.{ltb};
 ghost use Rattle.bit_laws.specs.Numbers.{bit_of};
@@ -72,7 +72,7 @@ pub fn emit_splat<W: Width>(buf: &mut MicroBuf, at: &Place, scalar: u32)
 }
 
 /// Appends what puts ones into the elements of register `at.to` that are free: of the tail, or
-/// masked off, where they need not stay (vector extension 1.0, section 3.4.3). The free elements
+/// masked off, where they need not stay (vector extension 1.0, section 3.4.3). The agnostic elements
 /// stand in their row. No other row changes. There are no errors.
 pub fn emit_fill<W: Width>(buf: &mut MicroBuf, at: &Place)
     requires to { at.now.to < 32 }

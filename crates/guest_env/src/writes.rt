@@ -9,10 +9,7 @@ use crate::answers::{BAD_ADDRESS, BAD_DESCRIPTOR};
 use crate::descriptors::{ERROR_OUTPUT, is_output};
 use crate::ranges::is_allowed;
 use cape_io::{Failed, Sink};
-use guest_mem::{Mem, Perms};
-
-// The bytes of a page.
-const PAGE_SIZE: u32 = 4096;
+use guest_mem::{Mem, PAGE_SIZE, Perms};
 
 // Writes the bytes of a range, a piece for each page that it meets, in the range's own order.
 fn write_range<K: Sink>(mem: &Mem, address: u32, count: u32, sink: &mut K) -> Result<(), Failed>

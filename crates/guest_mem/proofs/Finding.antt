@@ -52,8 +52,8 @@ first numbers n k rising at =
       inside = inside;
       here = eq-eqb (get_or numbers k 0) n is;
       before = λ j less.
-      let apart = rising-apart numbers j k rising less inside in
-      ne_eqb (get_or numbers j 0) n (λ same. omega (arith, apart, is, same));
+          let apart = rising-apart numbers j k rising less inside in
+          ne_eqb (get_or numbers j 0) n (λ same. omega (arith, apart, is, same));
     }
 
 first-later : (m : ℕ) (numbers : List ℕ) (n k : ℕ) → First (m ∷ numbers) n (suc k) → First numbers n k
@@ -192,10 +192,10 @@ boxed-index value numbers boxes n at b index inside below above none =
     record {
       same = omega (arith, same, count, more, length-insert numbers at n inside, length-insert boxes at b within);
       rising = rising-insert numbers at n index.rising inside below (λ here.
-      let up = above at (omega arith) here in
-      let apart = elsewhere numbers (map value boxes) n at index none here in
-      let ne : get_or numbers at 0 ≢ n = apart in
-      omega (arith, up, ne));
+          let up = above at (omega arith) here in
+          let apart = elsewhere numbers (map value boxes) n at index none here in
+          let ne : get_or numbers at 0 ≢ n = apart in
+          omega (arith, up, ne));
     }
 
 -- ---- the numbers of the pages
@@ -219,12 +219,11 @@ contains-some numbers pages n same (Some p) is some = contains-found numbers pag
 -- they are the numbers that are mapped
 pub contains-mapped : (numbers : List ℕ) (pages : List Page) (n : ℕ) → IsIndex numbers pages → Contains numbers n ↔ IsSome (fin.get (mapped numbers pages) n)
 unfolding seek
-contains-mapped numbers pages n index =
-    (
-      λ (here : Contains numbers n).
+contains-mapped numbers pages n index = (
+  λ (here : Contains numbers n).
       let blank : Page = record { perms = 0; bytes = [] } in
       let at : slice_get numbers here.0 ≡ Some n = slice_get-get_or numbers here.0 n here.1 ∙ ap Some here.2 in
       let some : seek numbers pages n ≡ Some (get_or pages here.0 blank) = found numbers pages n here.0 blank index.same (first numbers n here.0 index.rising at) in
       rw some refl,
-      λ (some : IsSome (seek numbers pages n)). contains-some numbers pages n index.same (seek numbers pages n) refl some,
-    )
+  λ (some : IsSome (seek numbers pages n)). contains-some numbers pages n index.same (seek numbers pages n) refl some,
+)

@@ -111,8 +111,8 @@ put-holds pages a b x perms f h =
       perms_are = h.perms_are;
       whole = h.whole;
       each = λ k within.
-      let e : eqb (x * 4096 + k) a ≡ false = ne_eqb (x * 4096 + k) a (λ same. other (omega arith)) in
-      rw e (h.each k within);
+          let e : eqb (x * 4096 + k) a ≡ false = ne_eqb (x * 4096 + k) a (λ same. other (omega arith)) in
+          rw e (h.each k within);
     })
     (cases_eq (page_of a) x)
 

@@ -110,12 +110,7 @@ impl PageList {
     }
 
     // Gives permissions to a page, which is added where it was not there.
-    pub(crate) fn grant(
-        &mut self,
-        alloc: Global,
-        number: u32,
-        perms: Perms,
-    ) -> Result<(), NoMemory>
+    pub(crate) fn grant(&mut self, alloc: Global, number: u32, perms: Perms) -> Result<(), NoMemory>
         ensures page { OnOk result (self.new ≡ map.insert self.old number (joined (map.get self.old number) perms.0)) }
         ensures kept { OnErr result (self.new ≡ self.old) }
     {

@@ -264,8 +264,7 @@ impl Mem {
         if self.page(address).is_some() {
             return Ok(false);
         }
-        self.pages
-            .grant(alloc, page_number(address), Perms::READ.union(Perms::WRITE))?;
+        self.pages.grant(alloc, page_number(address), Perms::READ.union(Perms::WRITE))?;
         Ok(true)
     }
 

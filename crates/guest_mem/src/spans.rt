@@ -2,7 +2,7 @@
 ghost use Rattle.std.specs.Prelude.{◌≡◌, ◌+◌, ◌<◌, ◌≤◌};
 ghost use Rattle.guest_mem.specs.Spans.{first_page, last_page, meets, page_count_of, page_numbers};
 
-use crate::addresses::{PAGES, PAGE_SIZE};
+use crate::addresses::{PAGE_SIZE, PAGES};
 use crate::permissions::Perms;
 use bitflags::Flags;
 

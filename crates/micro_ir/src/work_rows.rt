@@ -21,7 +21,7 @@ pub const BROADCAST_ROW: u8 = 37;
 /// The truth of an element of a kind that makes a mask, at its highest bit.
 pub const TRUTH_ROW: u8 = 41;
 
-/// Ones in each bit of the free elements.
+/// Ones in each bit of the agnostic elements.
 pub const FREE_ROW: u8 = 52;
 
 /// The first operand of a wide result, each element as wide as the result.

@@ -152,12 +152,7 @@ fn entry_line(entry: u32) -> Line
 
 // Writes the line of a run of pages, if they are mapped.
 #[tactic(auto, using(cape_io::proofs::Writing::writes_none))]
-fn write_run<O: Sink>(
-    regions: &[Region],
-    first: u32,
-    after: u32,
-    out: &mut O,
-) -> Result<(), Failed>
+fn write_run<O: Sink>(regions: &[Region], first: u32, after: u32, out: &mut O) -> Result<(), Failed>
     requires start { first < page_numbers }
     requires end { after ≤ page_numbers }
     ensures { Writes O.Sink (line_of_run (perms_of (map span_of regions.now) first) first after) (is_ok result) out.old out.new }

@@ -127,7 +127,7 @@ fn emit_program(recipe: Recipe, i: &VInstr, cfg: &Cfg, scalar: u32, buf: &mut Mi
 
 /// Writes the program of an instruction into an empty buffer with room for 262,144 operations: its scalar into a row,
 /// where it has one; for each register of its groups, in rising order, its active elements, their mask bits, where the
-/// mask is an operand, and the list of its kind; and what fills the free elements, where these become ones. `scalar` is
+/// mask is an operand, and the list of its kind; and what fills the agnostic elements, where these become ones. `scalar` is
 /// the value of x[rs1], where the instruction takes it. The instruction is legal under the configuration, and one on
 /// elements that is built.
 pub fn plan(i: &VInstr, cfg: &Cfg, scalar: u32, buf: &mut MicroBuf)

@@ -59,7 +59,7 @@ fn emit_windows(cfg: &Cfg, mask: Use, first: u32, buf: &mut MicroBuf)
     }
 }
 
-// Ones into the free elements of a register, where free elements become ones.
+// Ones into the agnostic elements of a register, where agnostic elements become ones.
 fn emit_free<W: Width>(cfg: &Cfg, first: u32, masked: bool, to: u8, buf: &mut MicroBuf)
     requires width { cfg.now.vtype.sew ≡ W.BITS }
     requires to { to < 32 }
@@ -210,7 +210,7 @@ pub(crate) fn emit_mask_registers<W: Width>(
     }
 }
 
-// Ones into the free bits of a mask, where free elements become ones.
+// Ones into the free bits of a mask, where agnostic elements become ones.
 pub(crate) fn emit_mask_fill<W: Width>(cfg: &Cfg, to: u8, buf: &mut MicroBuf)
     requires width { cfg.now.vtype.sew ≡ W.BITS }
     requires to { to < 32 }
