@@ -1,7 +1,6 @@
 // The match of keys in the rows of one subarray.
 ghost use Rattle.std.specs.Prelude.{◌≡◌, ℕ, ◌+◌, ◌<◌, ◌≤◌, List, [], Bool, false, ◌&&◌, ◌||◌, length, slice_index_or};
-ghost use Rattle.cam_chain.specs.Slices.{matches};
-ghost use Rattle.cam_chain.specs.ChainValue.{row_bit, EachLong};
+ghost use Rattle.cam_chain.specs.ChainValue.{found_at, EachLong};
 
 use crate::keys::Keys;
 use bit_rows::Row;
@@ -22,8 +21,7 @@ pub(crate) fn search_subarray(
     ensures len { length tags.new ≡ length tags.old }
     ensures each { (c : ℕ) → c < length tags.old
         → slice_index_or tags.new c false
-        ≡ (matches (λ row. row_bit rows.now base row c) keys.now
-        || (join && slice_index_or tags.old c false)) }
+        ≡ (found_at rows.now base keys.now c || (join && slice_index_or tags.old c false)) }
 {
     if join {
         match_keys(rows, base, keys, scratch);
@@ -39,7 +37,7 @@ fn match_keys(rows: &[Row], base: usize, keys: &Keys, into: &mut Row)
     requires long { EachLong (length into.old) rows.now }
     ensures len { length into.new ≡ length into.old }
     ensures each { (c : ℕ) → c < length into.old
-        → slice_index_or into.new c false ≡ matches (λ row. row_bit rows.now base row c) keys.now }
+        → slice_index_or into.new c false ≡ found_at rows.now base keys.now c }
 {
     let pairs = keys.as_slice();
     if pairs.is_empty() {

@@ -4,7 +4,7 @@
 ghost use Rattle.std.specs.Prelude.{◌≡◌, ℕ, ◌+◌, ◌*◌, ◌^◌, ◌<◌, ◌≤◌, true, ◌&&◌, ltb};
 ghost use Rattle.bit_rows.specs.Words.{word_bit, IsTrimmed};
 ghost use Rattle.steer_net.specs.Network.{numbered, bit_in, is_width, MaskReaches};
-ghost use Rattle.steer_net.specs.Rows.{is_one, partly, spans};
+ghost use Rattle.steer_net.specs.Rows.{is_one, partly, spans, HoldsMask, mask_within};
 
 use crate::ranges::lane_words;
 use crate::sizes::{MASK, MAX_WORDS, SUBARRAYS, WORD_BITS};
@@ -62,8 +62,7 @@ pub(crate) fn write_lane<P: Planes>(
 fn mask_lane<P: Planes>(p: &P, number: u64, step: u32, counts: bool) -> [u64; MAX_WORDS]
     requires number { number < 2 ^ 33 }
     requires step { step ≤ 32 }
-    ensures { counts ≡ true → (c : ℕ) → c < (P.slices p.now).columns → number + c * step < 32 * (P.slices p.now).columns
-        → word_bit result c ≡ bit_in (P.slices p.now) 0 (number + c * step) }
+    ensures { counts ≡ true → HoldsMask (P.slices p.now) result number step }
 {
     if counts {
         mask_bits(p, number, step)
@@ -76,8 +75,8 @@ fn mask_lane<P: Planes>(p: &P, number: u64, step: u32, counts: bool) -> [u64; MA
 fn mask_bits<P: Planes>(p: &P, number: u64, step: u32) -> [u64; MAX_WORDS]
     requires number { number < 2 ^ 33 }
     requires step { step ≤ 32 }
-    ensures { (c : ℕ) → c < (P.slices p.now).columns → word_bit result c
-        ≡ (ltb (number + c * step) (32 * (P.slices p.now).columns) && bit_in (P.slices p.now) 0 (number + c * step)) }
+    ensures { (c : ℕ) → c < (P.slices p.now).columns
+        → word_bit result c ≡ mask_within (P.slices p.now) (number + c * step) }
 {
     let mut words = [0; MAX_WORDS];
     for col in 0..p.columns() {
@@ -90,7 +89,7 @@ fn mask_bits<P: Planes>(p: &P, number: u64, step: u32) -> [u64; MAX_WORDS]
 
 // A bit of the mask; the numbers past its end have none.
 fn mask_bit<P: Planes>(p: &P, number: u64) -> bool
-    ensures { result ≡ (ltb number (32 * (P.slices p.now).columns) && bit_in (P.slices p.now) 0 number) }
+    ensures { result ≡ mask_within (P.slices p.now) number }
 {
     let subarrays = u64::from(SUBARRAYS);
     number < subarrays * u64::from(p.columns())

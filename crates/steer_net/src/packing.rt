@@ -1,7 +1,7 @@
 ghost use Rattle.std.specs.Prelude.{◌≡◌, ℕ, ◌+◌, ◌-◌, ◌*◌, ◌/◌, ◌<◌, ◌≤◌, cond, true, not, ◌&&◌, eqb, ltb};
 ghost use Rattle.bit_rows.specs.Words.{word_bit};
 ghost use Rattle.steer_net.specs.Network.{packed, is_packed, top_bit, bit_in, is_width, PackReaches};
-ghost use Rattle.steer_net.specs.Rows.{mask_bit, packed_bit};
+ghost use Rattle.steer_net.specs.Rows.{mask_bit, packed_bit, packed_column};
 
 use crate::columns::{read_row, write_words};
 use crate::lanes::write_lane;
@@ -106,7 +106,7 @@ fn pack_column<P: Planes>(
     requires column { col < (P.slices p.now).columns }
     requires few { (P.slices p.now).columns ≤ 2048 }
     ensures { (c : ℕ) → word_bit words.new c
-        ≡ cond (eqb c col && is_packed under width first (P.slices p.now) (col * 32 + sub)) (top_bit width (P.slices p.now) from (col * 32 + sub - first)) (word_bit words.old c) }
+        ≡ packed_column from under width first sub col (P.slices p.now) (word_bit words.old) c }
 {
     let number = col * u32::from(SUBARRAYS) + u32::from(sub);
     if is_named(p, under, width, first, number) {
