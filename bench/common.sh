@@ -18,35 +18,36 @@ image() {
     word "$@"
 }
 
-# The nanoseconds of a command, the least of some runs. The error output of the last stays in the scratch folder.
+# The milliseconds of processor time that a command takes by itself, the least of some runs. The error output of the last
+# stays in the scratch folder.
 least_time() {
-    local runs=$1 least="" start took i
+    local runs=$1 least="" took i TIMEFORMAT=%3U
     shift
     for ((i = 0; i < runs; i++)); do
-        start=$(date +%s%N)
-        "$@" >/dev/null 2>"$work/err" || true
-        took=$(($(date +%s%N) - start))
+        took=$({ time "$@" >/dev/null 2>"$work/err" || true; } 2>&1)
+        took=$((10#${took/./}))
         if [ -z "$least" ] || [ "$took" -lt "$least" ]; then least=$took; fi
     done
     echo "$least"
 }
 
 # Times the words of a command with the built program and with the model, and prints the ratio. The reports must agree.
-#   race RUNS CAPE WORDS..
+#   race TITLE RUNS CAPE WORDS..
 race() {
-    local runs=$1 cape=$2 ours theirs
-    shift 2
+    local title=$1 runs=$2 cape=$3 ours theirs
+    shift 3
     need_built "$cape" cape
+    echo "race: $title"
     ours=$(least_time "$runs" "$cape" "$@")
     mv "$work/err" "$work/report"
     cat "$work/report"
-    echo "cape: $((ours / 1000000)) ms"
+    echo "cape: $ours ms"
     if [ ! -x "$model" ]; then
         echo "model: skipped, nothing at $model"
     else
         theirs=$(least_time "$runs" "$model" "$@")
-        echo "model: $((theirs / 1000000)) ms"
-        echo "ratio: $((ours * 100 / theirs)) hundredths"
+        echo "model: $theirs ms"
+        echo "ratio: $((ours * 100 / (theirs > 0 ? theirs : 1))) hundredths"
         cmp "$work/report" "$work/err"
     fi
 }

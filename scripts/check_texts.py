@@ -2,7 +2,7 @@
 """Checks the texts of the repository before its proofs, and ends with 1 where one of these fails:
 
 - a source or definition file has at most 500 lines;
-- a clause of a contract has at most 400 characters, spaces run together;
+- a clause of a contract has at most 160 characters, spaces run together;
 - crates.txt, docs/ARCHITECTURE.md and docs/PROOFS.md list the same crates, in one order, each with its folder;
 - no text cites what is not in the repository: papers, requests or definitions by a number.
 
@@ -14,7 +14,7 @@ import sys
 
 TOP = pathlib.Path(__file__).resolve().parent.parent
 MOST_LINES = 500
-MOST_CHARACTERS = 400
+MOST_CHARACTERS = 160
 CITED = re.compile(
     r"\b(T[1-5]\.[0-9]|D([1-9]|1[0-9]|2[0-5])\b|R([1-9]|1[0-9]|20)\b|W([1-79]|1[0-5])\b"
     r"|document 0[1-4]|0[1-4] (section|part)|ERRATA|papers?\b)|\.\./shared"

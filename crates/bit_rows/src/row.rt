@@ -1,39 +1,48 @@
-ghost use Rattle.std.specs.Prelude.{◌≡◌, ◌<◌, ◌≤◌, true, false, not, ◌&&◌, ◌||◌, length, map, slice_index_or, slice_set, replicate, IfOk, if◌then◌else◌};
+ghost use Rattle.std.specs.Prelude.{◌≡◌, ℕ, ◌+◌, ◌*◌, ◌/◌, ◌<◌, ◌≤◌, Bool, true, false, not, ◌&&◌, ◌||◌, List, length, map, slice_index_or, slice_set, replicate, IfOk, if◌then◌else◌, ltb};
 ghost use Rattle.std.specs.List.{count_by, position};
+ghost use Rattle.bit_rows.specs.Words.{word_bit, words_for, IsTrimmed};
 ghost use Rattle.bit_rows.specs.Rows.{zip_with};
 ghost use mathlib.Core.Bool.{beq};
 
+use crate::kernels::{
+    and_words, copy_words, count_words, fill_words, first_bit, flip_words, match_words,
+    match_words_from, or_words,
+};
+use crate::sizes::{MAX_WORDS, WORD_BITS};
 use std::alloc::{AllocError as NoMemory, Global};
 use std::marker::Model;
 
 /// A row of at most 2,048 bits.
 #[derive(Drop)]
 pub struct Row {
-    bits: Vec<bool>,
+    len: u32,
+    // Bit i mod 64 of word i div 64 is the bit at place i; the bits past the row are 0.
+    words: [u64; MAX_WORDS],
 }
 
 impl Model for Row {
-    ghost use Rattle.std.specs.Prelude.{Bool, List, length, ◌≤◌};
+    ghost use Rattle.std.specs.Prelude.{Bool, List, ◌≤◌};
+    ghost use Rattle.bit_rows.specs.Words.{IsTrimmed};
+    ghost use Rattle.bit_rows.specs.Rows.{bits_of};
 
     ghost Value = { List Bool };
 
-    ghost view = { λ row. row.bits.items };
+    ghost view = { λ row. bits_of row.len row.words };
 
-    ghost invariant = { λ row. length row.bits.items ≤ 2048 };
+    ghost invariant = { λ row. record { few : row.len ≤ 2048; trimmed : IsTrimmed row.len row.words } };
 }
 
 impl Row {
     /// A row of `len` zeros.
-    pub fn new(alloc: Global, len: u32) -> Result<Row, NoMemory>
+    pub fn new(_alloc: Global, len: u32) -> Result<Row, NoMemory>
         requires some { 1 ≤ len }
         requires few { len ≤ 2048 }
         ensures { IfOk result (λ row. row ≡ replicate len false) }
     {
-        let mut bits = Vec::with_capacity(alloc, len as usize)?;
-        for _ in 0..len {
-            bits.push(false)?;
-        }
-        Ok(Row { bits })
+        Ok(Row {
+            len,
+            words: [0; MAX_WORDS],
+        })
     }
 
     /// The bit at place `i`.
@@ -41,7 +50,7 @@ impl Row {
         requires { i < length self.now }
         ensures { result ≡ slice_index_or self.now i false }
     {
-        self.bits[i as usize]
+        (self.words[(i / WORD_BITS) as usize] >> (i % WORD_BITS)) & 1 == 1
     }
 
     /// Writes the bit at place `i`.
@@ -49,7 +58,9 @@ impl Row {
         requires { i < length self.old }
         ensures { self.new ≡ slice_set self.old i bit }
     {
-        self.bits[i as usize] = bit;
+        let word = self.words[(i / WORD_BITS) as usize];
+        let place = 1 << (i % WORD_BITS);
+        self.words[(i / WORD_BITS) as usize] = if bit { word | place } else { word & !place };
     }
 
     /// The number of places, up to 2,048.
@@ -57,7 +68,28 @@ impl Row {
         ensures value { result ≡ length self.now }
         ensures few { result ≤ 2048 }
     {
-        self.bits.len() as u32
+        self.len
+    }
+
+    /// The packed words: bit i mod 64 of word i div 64 is the bit at place i, and the bits past the
+    /// row are 0.
+    pub fn words(&self) -> &[u64]
+        ensures len { length result.now ≡ words_for (length self.now) }
+        ensures few { length result.now ≤ 32 }
+        ensures bits { (k : ℕ) → word_bit result.now k ≡ slice_index_or self.now k false }
+    {
+        &self.words[..words_of(self.len)]
+    }
+
+    /// Becomes the packed words, whose bits past the row are 0.
+    pub fn set_words(&mut self, words: &[u64])
+        requires len { length words.now ≡ words_for (length self.old) }
+        requires trimmed { IsTrimmed (length self.old) words.now }
+        ensures len { length self.new ≡ length self.old }
+        ensures bits { (k : ℕ) → slice_index_or self.new k false ≡ word_bit words.now k }
+    {
+        let count = words_of(self.len);
+        copy_words(&mut self.words[..count], words);
     }
 
     /// Sets each bit.
@@ -65,7 +97,9 @@ impl Row {
         ensures len { length self.new ≡ length self.old }
         ensures bits { self.new ≡ replicate (length self.old) true }
     {
-        self.bits.fill(true);
+        let len = self.len;
+        fill_words(&mut self.words[..words_of(len)], u64::MAX);
+        trim(&mut self.words, len);
     }
 
     /// Clears each bit.
@@ -73,7 +107,8 @@ impl Row {
         ensures len { length self.new ≡ length self.old }
         ensures bits { self.new ≡ replicate (length self.old) false }
     {
-        self.bits.fill(false);
+        let count = words_of(self.len);
+        fill_words(&mut self.words[..count], 0);
     }
 
     /// Turns each bit into the other one.
@@ -81,9 +116,9 @@ impl Row {
         ensures len { length self.new ≡ length self.old }
         ensures bits { self.new ≡ map not self.old }
     {
-        for bit in self.bits.iter_mut() {
-            *bit = !*bit;
-        }
+        let len = self.len;
+        flip_words(&mut self.words[..words_of(len)]);
+        trim(&mut self.words, len);
     }
 
     /// Keeps each bit where the other row's is set, and clears it elsewhere. The rows are equally
@@ -93,11 +128,8 @@ impl Row {
         ensures len { length self.new ≡ length self.old }
         ensures bits { self.new ≡ zip_with (λ bit with. bit && with) self.old other.now }
     {
-        for i in 0..self.bits.len() {
-            if !other.bits[i] {
-                self.bits[i] = false;
-            }
-        }
+        let count = words_of(self.len);
+        and_words(&mut self.words[..count], &other.words[..count]);
     }
 
     /// Sets each place where the other row's bit is set. The rows are equally long.
@@ -106,11 +138,8 @@ impl Row {
         ensures len { length self.new ≡ length self.old }
         ensures bits { self.new ≡ zip_with (λ bit with. bit || with) self.old other.now }
     {
-        for i in 0..self.bits.len() {
-            if other.bits[i] {
-                self.bits[i] = true;
-            }
-        }
+        let count = words_of(self.len);
+        or_words(&mut self.words[..count], &other.words[..count]);
     }
 
     /// Clears in `into` each place where the bit is not `want`. The rows are equally long.
@@ -119,11 +148,21 @@ impl Row {
         ensures len { length into.new ≡ length into.old }
         ensures bits { into.new ≡ zip_with (λ matched bit. matched && beq bit want) into.old self.now }
     {
-        for i in 0..self.bits.len() {
-            if self.bits[i] != want {
-                into.bits[i] = false;
-            }
-        }
+        let count = words_of(self.len);
+        match_words(&self.words[..count], want, &mut into.words[..count]);
+    }
+
+    /// Becomes the matched bits of the other row: a bit is set where that one's is `want`. The rows
+    /// are equally long.
+    pub fn match_from(&mut self, row: &Row, want: bool)
+        requires { length self.old ≡ length row.now }
+        ensures len { length self.new ≡ length self.old }
+        ensures bits { self.new ≡ map (λ bit. beq bit want) row.now }
+    {
+        let len = self.len;
+        let count = words_of(len);
+        match_words_from(&row.words[..count], want, &mut self.words[..count]);
+        trim(&mut self.words, len);
     }
 
     /// Writes the bit at each place where the mask's bit is set. The rows are equally long.
@@ -132,10 +171,11 @@ impl Row {
         ensures len { length self.new ≡ length self.old }
         ensures bits { self.new ≡ zip_with (λ old chosen. if chosen then bit else old) self.old mask.now }
     {
-        for i in 0..self.bits.len() {
-            if mask.bits[i] {
-                self.bits[i] = bit;
-            }
+        let count = words_of(self.len);
+        if bit {
+            or_words(&mut self.words[..count], &mask.words[..count]);
+        } else {
+            match_words(&mask.words[..count], false, &mut self.words[..count]);
         }
     }
 
@@ -145,31 +185,41 @@ impl Row {
         ensures len { length self.new ≡ length self.old }
         ensures bits { self.new ≡ other.now }
     {
-        self.bits.copy_from_slice(other.bits.as_slice());
+        let count = words_of(self.len);
+        copy_words(&mut self.words[..count], &other.words[..count]);
     }
 
     /// How many bits are set.
     pub fn count(&self) -> u32
         ensures { result ≡ count_by (λ bit. bit) self.now }
     {
-        let mut count = 0;
-        for bit in self.bits.as_slice() {
-            if *bit {
-                count += 1;
-            }
-        }
-        count
+        count_words(&self.words[..words_of(self.len)])
     }
 
     /// The first place whose bit is set, or `None` where none is.
     pub fn first(&self) -> Option<u32>
         ensures { result ≡ position (λ bit. bit) self.now }
     {
-        for i in 0..self.bits.len() {
-            if self.bits[i] {
-                return Some(i as u32);
-            }
-        }
-        None
+        first_bit(&self.words[..words_of(self.len)])
     }
+}
+
+// Clears the bits from place `len` on, of which those past the word of `len` are 0.
+fn trim(words: &mut [u64; MAX_WORDS], len: u32)
+    requires few { len ≤ 2048 }
+    requires past { IsTrimmed (64 * words_for len) words.old }
+    ensures { (k : ℕ) → word_bit words.new k ≡ (ltb k len && word_bit words.old k) }
+{
+    if len % WORD_BITS != 0 {
+        words[(len / WORD_BITS) as usize] &= (1 << (len % WORD_BITS)) - 1;
+    }
+}
+
+// How many words hold so many bits.
+fn words_of(len: u32) -> usize
+    requires { len ≤ 2048 }
+    ensures value { result ≡ words_for len }
+    ensures few { result ≤ 32 }
+{
+    len.div_ceil(WORD_BITS) as usize
 }

@@ -6,6 +6,8 @@ pub mod Rows
 pub mod Fresh
 pub mod Words
 pub mod Placing
+pub mod WordRows
+pub mod Sets
 pub mod Searching
 pub mod Updating
 pub mod Passing

@@ -34,3 +34,10 @@ keyed-more rows base keys i k row a b h g l e p q =
     q ∙ rw (p, matches-more (λ r. row_bit rows base r k) keys i (0, false) h, lt-ltb (get_or keys i (0, false)).0 64 g)
     (ap (λ (x : List Bool). matches (λ r. row_bit rows base r k) (take i keys) && beq (get_or x k false) (get_or keys i (0, false)).1)
     (e ∙ get_or_default rows (base + (get_or keys i (0, false)).0) row [] l))
+
+-- the first key has made the bits that match it
+pub keyed-first : (rows : List (List Bool)) (base : ℕ) (keys : List (ℕ × Bool)) (k : ℕ) (row : List Bool) (b : Bool) → 0 < length keys
+    → (get_or keys 0 (0, false)).0 < 64 → base + (get_or keys 0 (0, false)).0 < length rows → row ≡ get_or rows (base + (get_or keys 0 (0, false)).0) row
+    → b ≡ beq (get_or row k false) (get_or keys 0 (0, false)).1
+    → b ≡ matches (λ r. row_bit rows base r k) (take 1 keys)
+keyed-first rows base keys k row b h g l e q = keyed-more rows base keys 0 k row true b h g l e refl q

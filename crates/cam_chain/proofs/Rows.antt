@@ -1,7 +1,7 @@
 -- A row of a list of rows, written.
-use Rattle.std.proofs.Common.{◌≡◌, ℕ, ◌+◌, ◌-◌, ◌<◌, ◌≤◌, Bool, false, List, [], length, get_or, ◌∙◌, arith, ⊎_elim, set, ap, length-set, get_or-set_same, get_or-set_other}
-use Rattle.std.proofs.lemmas.List.{get_or_default}
-use Rattle.std.proofs.lemmas.Bool.{cases_eq, cases_lt}
+use Rattle.std.proofs.Common.{◌≡◌, ℕ, ◌+◌, ◌-◌, ◌<◌, ◌≤◌, Bool, false, List, [], ◌++◌, length, get_or, refl, sym, ◌∙◌, arith, ⊎_elim, set, ap, length-set, get_or-set_same, get_or-set_other}
+use Rattle.std.proofs.lemmas.List.{get_or_default, set-append_left, set-append_right, get_or_append_left, get_or-append_right}
+use Rattle.std.proofs.lemmas.Bool.{cases_eq}
 use Rattle.cam_chain.specs.ChainValue.{EachLong}
 
 -- a row that is lent has the rows' length
@@ -35,21 +35,68 @@ clear_next low i old now row before p h l e z = record {
   long = λ n a. set-long n now i row before (p.long n a) l e;
 }
 
--- rows that are others of the rows have their length
-rotated_long : (n k : ℕ) (old now : List (List Bool)) → EachLong n old → length now ≡ length old → k ≤ length old
-    → ((i : ℕ) → i < length old → (j : ℕ) × (j < length old) × (get_or now i [] ≡ get_or old j [])) → EachLong n now
-rotated_long n k old now p e h f i m = let q = f i (omega arith) in rw (q.2) (p q.0 q.1)
+-- a row that is written between the parts of a list
+pub set-below : (rows below above : List (List Bool)) (i : ℕ) (row : List Bool) → rows ≡ below ++ above → i < length below → set below i row ++ above ≡ set rows i row
+set-below rows below above i row e h = rw e (sym (set-append_left below above i row h))
 
--- rows moved up keep their length
-pub up_long : (n k : ℕ) (old now : List (List Bool)) → EachLong n old → length now ≡ length old → k ≤ length old
-    → ((i : ℕ) (d : List Bool) → i < k → get_or now i d ≡ get_or old (length old - k + i) d)
-    → ((i : ℕ) (d : List Bool) → k ≤ i → i < length old → get_or now i d ≡ get_or old (i - k) d) → EachLong n now
-up_long n k old now p e h f g = rotated_long n k old now p e h (λ i m. ⊎_elim
-    (λ (a : i < k). (length old - k + i, omega arith, f i [] a)) (λ (a : k ≤ i). (i - k, omega arith, g i [] a m)) (cases_lt i k))
+pub set-above : (rows below above : List (List Bool)) (i : ℕ) (row : List Bool) → rows ≡ below ++ above → length below ≡ i → below ++ set above 0 row ≡ set rows i row
+set-above rows below above i row e h = let z : i - i ≡ 0 = omega arith in rw e (sym (set-append_right below above i i row h (omega arith) ∙ rw z refl))
 
--- rows moved down keep their length
-pub down_long : (n k : ℕ) (old now : List (List Bool)) → EachLong n old → length now ≡ length old → k ≤ length old
-    → ((i : ℕ) (d : List Bool) → i + k < length old → get_or now i d ≡ get_or old (i + k) d)
-    → ((i : ℕ) (d : List Bool) → length old ≤ i + k → i < length old → get_or now i d ≡ get_or old (i + k - length old) d) → EachLong n now
-down_long n k old now p e h f g = rotated_long n k old now p e h (λ i m. ⊎_elim
-    (λ (a : i + k < length old). (i + k, a, f i [] a)) (λ (a : length old ≤ i + k). (i + k - length old, omega arith, g i [] a m)) (cases_lt (i + k) (length old)))
+-- a row of a part of a list
+pub lent_below : (rows below above : List (List Bool)) (i : ℕ) (row : List Bool) → rows ≡ below ++ above → i < length below → get_or below i row ≡ get_or rows i []
+lent_below rows below above i row e h = get_or_default below i row [] h ∙ rw e (sym (get_or_append_left below above [] i h))
+
+pub lent_above : (rows below above : List (List Bool)) (i : ℕ) (row : List Bool) → rows ≡ below ++ above → length below ≡ i → 0 < length above → get_or above 0 row ≡ get_or rows i []
+lent_above rows below above i row e l h =
+    let z : i - i ≡ 0 = omega arith in
+    get_or_default above 0 row [] h ∙ rw e (sym (get_or-append_right below above i i [] l (omega arith) ∙ rw z refl))
+
+-- rows of one length have that of the first
+pub even_long : (n : ℕ) (rows : List (List Bool)) → EachLong n rows → EachLong (length (get_or rows 0 [])) rows
+even_long n rows long k h = long k h ∙ sym (long 0 (omega arith))
+
+-- the last k rows are those that stood t below them, and the others are as they were
+pub record MovedUp (t k : ℕ) (old now : List (List Bool)) : Type 0 where
+  pub len : length now ≡ length old
+  pub moved : (s : ℕ) → length old ≤ s + k → s < length old → get_or now s [] ≡ get_or old (s - t) []
+  pub kept : (s : ℕ) → s + k < length old → get_or now s [] ≡ get_or old s []
+  pub long : (n : ℕ) → EachLong n old → EachLong n now
+
+pub up_start : (t : ℕ) (old : List (List Bool)) → MovedUp t 0 old old
+up_start t old = record { len = refl; moved = λ s a b. absurd (omega arith); kept = λ s a. refl; long = λ n a. a }
+
+pub up_next : (t k from to : ℕ) (old now : List (List Bool)) → MovedUp t k old now → 0 < t → to + k + 1 ≡ length old → from + t ≡ to → MovedUp t (k + 1) old (set now to (get_or now from []))
+up_next t k from to old now p z e f =
+    let row = get_or now from [] in
+    let inside : to < length now = omega (arith, p.len) in
+    record {
+      len = length-set now to row ∙ p.len;
+      moved = λ s a b. ⊎_elim
+          (λ (x : s ≡ to). let y : s - t ≡ from = omega arith in rw (x, get_or-set_same now to row [] inside) (p.kept from (omega arith) ∙ rw (← x, y) refl))
+          (λ (x : s ≡ to → ⊥). rw (get_or-set_other now to s row [] x) (p.moved s (omega arith) b)) (cases_eq s to);
+      kept = λ s a. let x : s ≡ to → ⊥ = omega arith in rw (get_or-set_other now to s row [] x) (p.kept s (omega arith));
+      long = λ n a. set-long n now to row [] (p.long n a) inside (p.long n a from (omega arith) ∙ sym (p.long n a to inside));
+    }
+
+-- the first k rows are those that stood t above them, and the others are as they were
+pub record MovedDown (t k : ℕ) (old now : List (List Bool)) : Type 0 where
+  pub len : length now ≡ length old
+  pub moved : (s : ℕ) → s < k → get_or now s [] ≡ get_or old (s + t) []
+  pub kept : (s : ℕ) → k ≤ s → get_or now s [] ≡ get_or old s []
+  pub long : (n : ℕ) → EachLong n old → EachLong n now
+
+pub down_start : (t : ℕ) (old : List (List Bool)) → MovedDown t 0 old old
+down_start t old = record { len = refl; moved = λ s a. absurd (omega arith); kept = λ s a. refl; long = λ n a. a }
+
+pub down_next : (t k : ℕ) (old now : List (List Bool)) → MovedDown t k old now → k + t < length old → MovedDown t (k + 1) old (set now k (get_or now (k + t) []))
+down_next t k old now p h =
+    let row = get_or now (k + t) [] in
+    let inside : k < length now = omega (arith, p.len) in
+    record {
+      len = length-set now k row ∙ p.len;
+      moved = λ s a. ⊎_elim
+          (λ (x : s ≡ k). rw (x, get_or-set_same now k row [] inside) (p.kept (k + t) (omega arith)))
+          (λ (x : s ≡ k → ⊥). rw (get_or-set_other now k s row [] x) (p.moved s (omega arith))) (cases_eq s k);
+      kept = λ s a. let x : s ≡ k → ⊥ = omega arith in rw (get_or-set_other now k s row [] x) (p.kept s (omega arith));
+      long = λ n a. set-long n now k row [] (p.long n a) inside (p.long n a (k + t) (omega (arith, p.len)) ∙ sym (p.long n a k inside));
+    }

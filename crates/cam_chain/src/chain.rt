@@ -1,11 +1,14 @@
-ghost use Rattle.std.specs.Prelude.{◌≡◌, ℕ, ◌+◌, ◌-◌, ◌*◌, ◌^◌, ◌<◌, ◌≤◌, List, [], Bool, true, false, ◌&&◌, ◌||◌, eqb, length, replicate, slice_index_or, IfOk};
+ghost use Rattle.std.specs.Prelude.{◌≡◌, ℕ, ◌+◌, ◌*◌, ◌^◌, ◌<◌, ◌≤◌, List, Bool, true, false, eqb, length, replicate, slice_index_or, IfOk};
 ghost use Rattle.std.specs.Int.{bit_at};
 ghost use Rattle.bit_rows.specs.Slices.{blank};
-ghost use Rattle.cam_chain.specs.Slices.{matches, searched, updated, passed, word_written};
-ghost use Rattle.cam_chain.specs.ChainValue.{slices_of, no_counts, row_bit, EachLong};
+ghost use Rattle.cam_chain.specs.Slices.{searched, updated, passed, word_written};
+ghost use Rattle.cam_chain.specs.ChainValue.{slices_of, no_counts};
 
 use crate::counts::Counts;
+use crate::key_match::search_subarray;
 use crate::keys::Keys;
+use crate::row_moves::{copy_rows, shift_down, shift_up};
+use crate::subarray_sets::{lowest_of, without};
 use bit_rows::{Planes, Row};
 use std::alloc::{AllocError as NoMemory, Global};
 use std::marker::Model;
@@ -17,7 +20,8 @@ pub struct Chain {
     // Row 64 * sub + row is the row of the subarray.
     rows: Vec<Row>,
     tags: Vec<Row>,
-    // The match of one subarray, kept here so that a search takes no memory.
+    // The match of one subarray that is to be joined with its tags, kept here so that a search takes
+    // no memory.
     scratch: Row,
     counts: Counts,
 }
@@ -142,17 +146,18 @@ impl Chain {
         ensures counted { self.new.counts
             ≡ record self.old.counts { searches = self.old.counts.searches + 1 } }
     {
-        for sub in 0..32u32 {
-            if (subs >> sub) & 1 == 1 {
-                search_subarray(
-                    self.rows.as_slice(),
-                    sub as usize * 64,
-                    keys,
-                    join,
-                    &mut self.scratch,
-                    &mut self.tags[sub as usize],
-                );
-            }
+        let mut rest = subs;
+        while rest != 0 {
+            let sub = lowest_of(rest);
+            search_subarray(
+                self.rows.as_slice(),
+                sub as usize * 64,
+                keys,
+                join,
+                &mut self.scratch,
+                &mut self.tags[sub as usize],
+            );
+            rest = without(rest, sub);
         }
         self.counts.searches += 1;
     }
@@ -167,13 +172,11 @@ impl Chain {
         ensures counted { self.new.counts
             ≡ record self.old.counts { updates = self.old.counts.updates + 1 } }
     {
-        for sub in 0..32u32 {
-            if (subs >> sub) & 1 == 1 {
-                self.rows[sub as usize * 64 + row as usize].write_where(
-                    &self.tags[sub as usize],
-                    bit,
-                );
-            }
+        let mut rest = subs;
+        while rest != 0 {
+            let sub = lowest_of(rest);
+            self.rows[sub as usize * 64 + row as usize].write_where(&self.tags[sub as usize], bit);
+            rest = without(rest, sub);
         }
         self.counts.updates += 1;
     }
@@ -207,6 +210,7 @@ impl Chain {
     }
 
     fn pass_up(&mut self, times: u8)
+        requires some { 1 ≤ times }
         requires few { times ≤ 31 }
         requires counter { self.old.counts.passes < 2 ^ 100 }
         ensures slices { slices_of self.new ≡ passed true times (slices_of self.old) }
@@ -219,6 +223,7 @@ impl Chain {
     }
 
     fn pass_down(&mut self, times: u8)
+        requires some { 1 ≤ times }
         requires few { times ≤ 31 }
         requires counter { self.old.counts.passes < 2 ^ 100 }
         ensures slices { slices_of self.new ≡ passed false times (slices_of self.old) }
@@ -256,6 +261,18 @@ impl Planes for Chain {
     fn tag(&self, sub: u8, col: u32) -> bool {
         self.tags(sub).get(col)
     }
+
+    fn words(&self, sub: u8, row: u8) -> &[u64] {
+        self.row(sub, row).words()
+    }
+
+    fn tag_words(&self, sub: u8) -> &[u64] {
+        self.tags(sub).words()
+    }
+
+    fn set_words(&mut self, sub: u8, row: u8, words: &[u64]) {
+        self.rows[sub as usize * 64 + row as usize].set_words(words);
+    }
 }
 
 /// So many rows of zeros.
@@ -269,90 +286,4 @@ fn zero_rows(alloc: Global, count: u32, columns: u32) -> Result<Vec<Row>, NoMemo
         rows.push(Row::new(alloc, columns)?)?;
     }
     Ok(rows)
-}
-
-/// Each row becomes the one at its place in `from`.
-fn copy_rows(rows: &mut [Row], from: &[Row])
-    requires len { length rows.old ≡ length from.now }
-    requires long { (k : ℕ) → k < length from.now
-        → length (slice_index_or rows.old k []) ≡ length (slice_index_or from.now k []) }
-    ensures { rows.new ≡ from.now }
-{
-    for i in 0..rows.len() {
-        rows[i].copy_from(&from[i]);
-    }
-}
-
-/// Leaves in `into` the columns where each key's row has the wanted bit.
-fn match_keys(rows: &[Row], base: usize, keys: &Keys, into: &mut Row)
-    requires room { base + 64 ≤ length rows.now }
-    requires long { EachLong (length into.old) rows.now }
-    ensures len { length into.new ≡ length into.old }
-    ensures each { (c : ℕ) → c < length into.old
-        → slice_index_or into.new c false ≡ matches (λ row. row_bit rows.now base row c) keys.now }
-{
-    into.fill();
-    for key in keys.as_slice() {
-        rows[base + key.0 as usize].match_into(key.1, into);
-    }
-}
-
-/// The tags become the match, or are or-ed with it where `join`.
-fn search_subarray(
-    rows: &[Row],
-    base: usize,
-    keys: &Keys,
-    join: bool,
-    scratch: &mut Row,
-    tags: &mut Row,
-)
-    requires room { base + 64 ≤ length rows.now }
-    requires long { EachLong (length tags.old) rows.now }
-    requires scratch { length scratch.old ≡ length tags.old }
-    ensures scratch { length scratch.new ≡ length scratch.old }
-    ensures len { length tags.new ≡ length tags.old }
-    ensures each { (c : ℕ) → c < length tags.old
-        → slice_index_or tags.new c false
-        ≡ (matches (λ row. row_bit rows.now base row c) keys.now
-        || (join && slice_index_or tags.old c false)) }
-{
-    match_keys(rows, base, keys, scratch);
-    if join {
-        tags.or_with(scratch);
-    } else {
-        tags.copy_from(scratch);
-    }
-}
-
-/// Each row becomes the one that stands `times` below it; the first ones become zero.
-fn shift_up(rows: &mut [Row], times: usize)
-    requires { times ≤ length rows.old }
-    ensures len { length rows.new ≡ length rows.old }
-    ensures vacated { (s c : ℕ) → s < times
-        → slice_index_or (slice_index_or rows.new s []) c false ≡ false }
-    ensures moved { (s : ℕ) → times ≤ s → s < length rows.old
-        → slice_index_or rows.new s [] ≡ slice_index_or rows.old (s - times) [] }
-    ensures long { (n : ℕ) → EachLong n rows.old → EachLong n rows.new }
-{
-    rows.rotate_right(times);
-    for i in 0..times {
-        rows[i].clear();
-    }
-}
-
-/// Each row becomes the one that stands `times` above it; the last ones become zero.
-fn shift_down(rows: &mut [Row], times: usize)
-    requires { times ≤ length rows.old }
-    ensures len { length rows.new ≡ length rows.old }
-    ensures vacated { (s c : ℕ) → length rows.old ≤ s + times → s < length rows.old
-        → slice_index_or (slice_index_or rows.new s []) c false ≡ false }
-    ensures moved { (s : ℕ) → s + times < length rows.old
-        → slice_index_or rows.new s [] ≡ slice_index_or rows.old (s + times) [] }
-    ensures long { (n : ℕ) → EachLong n rows.old → EachLong n rows.new }
-{
-    let kept = rows.len() - times;
-    rows.rotate_left(times);
-    for i in kept..rows.len() {
-        rows[i].clear();
-    }
 }

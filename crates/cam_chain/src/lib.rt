@@ -3,7 +3,10 @@
 
 mod chain;
 mod counts;
+mod key_match;
 mod keys;
+mod row_moves;
+mod subarray_sets;
 
 pub use chain::Chain;
 pub use counts::Counts;

@@ -1,9 +1,10 @@
-// The real streams and files. They tell no bytes, and count their faults up to the end of the
+// The real streams and files. Of their bytes nothing is known, and they count their faults up to the end of the
 // count. What they move is what the reader or the writer below them moves.
-ghost use Rattle.std.specs.Prelude.{◌≡◌, ◌<◌, ◌≤◌, None, length, map, string_bytes, take, true, false, IfOk, IsErr, OnOk, OnErr};
+ghost use Rattle.std.specs.Prelude.{◌≡◌, ◌<◌, None, length, map, string_bytes, take, true, false, is_ok, IfOk, IsErr, OnOk, OnErr};
 ghost use Rattle.std.specs.Io.{ReadsAtMost};
 ghost use Rattle.std.specs.Io.KnownBytes.{Appends, Consumes, IsAtEnd, Keeps, ReadConsumes};
-ghost use Rattle.cape_io.specs.Devices.{Absent, Rose, StartsAt, Untold, one_fault_more};
+ghost use Rattle.cape_io.specs.Devices.{Absent, Rose, StartsAt, Unknown};
+ghost use Rattle.cape_io.specs.States.{PutsInWriter};
 
 use crate::counts::count_fault;
 use crate::{Failed, Files, Sink, Source};
@@ -43,12 +44,10 @@ impl<R: Read> Source for StdSource<R> {
 
     fn take(&mut self, buf: &mut [u8]) -> Result<usize, Failed>
         ensures bound { ReadsAtMost result buf.new }
-        ensures never_falls { self.old.faults ≤ self.new.faults }
+        ensures quiet { OnOk result (self.new.faults ≡ self.old.faults) }
         ensures rose { OnErr result (Rose self.old.faults self.new.faults) }
 
         ensures reads { ReadConsumes self.old.remaining self.new.remaining result buf.new }
-        ensures quiet { OnOk result (self.new.faults ≡ self.old.faults) }
-        ensures counted { OnErr result (self.new.faults ≡ one_fault_more self.old.faults) }
     {
         match self.reader.read(buf) {
             Ok(count) => Ok(count),
@@ -86,13 +85,10 @@ impl<W: Write> Sink for StdSink<W> {
 
     ghost faults = { λ s. s.faults };
 
-    fn put(&mut self, piece: &[u8]) -> Result<(), Failed>
-        ensures never_falls { self.old.faults ≤ self.new.faults }
-        ensures rose { OnErr result (Rose self.old.faults self.new.faults) }
+    ghost put_gives = { PutsInWriter };
 
-        ensures writes { OnOk result (Appends self.old.contents self.new.contents piece.now) }
-        ensures quiet { OnOk result (self.new.faults ≡ self.old.faults) }
-        ensures counted { OnErr result (self.new.faults ≡ one_fault_more self.old.faults) }
+    fn put(&mut self, piece: &[u8]) -> Result<(), Failed>
+        ensures gives { PutsInWriter self.old piece.now (is_ok result) self.new }
     {
         match self.writer.write_all(piece) {
             Ok(()) => Ok(()),
@@ -152,11 +148,11 @@ impl<'a, R: FileSystem> DiskFiles<'a, R> {
     }
 }
 
-// Nothing is told, so what the trait says of bytes says nothing here.
+// Nothing is known of the files, so what the trait says of bytes says nothing here.
 impl<'a, R: FileSystem> Files for DiskFiles<'a, R> {
     ghost names = { λ s. s.names };
 
-    ghost told = { λ _ _. Untold };
+    ghost known_file = { λ _ _. Unknown };
 
     ghost is_open = { λ s. s.is_open };
 
@@ -172,19 +168,16 @@ impl<'a, R: FileSystem> Files for DiskFiles<'a, R> {
         requires { place < length self.old.names }
 
         ensures opened { OnOk result (self.new.is_open ≡ true) }
-        ensures start { OnOk result (StartsAt Untold None) }
-        ensures missing { Untold ≡ Absent → IsErr result }
+        ensures start { OnOk result (StartsAt Unknown None) }
+        ensures missing { Unknown ≡ Absent → IsErr result }
         ensures closed { OnErr result (self.new.is_open ≡ false) }
 
         ensures at { self.new.at ≡ place }
         ensures since { self.new.since ≡ self.old.faults }
         ensures names { self.new.names ≡ self.old.names }
 
-        ensures never_falls { self.old.faults ≤ self.new.faults }
-        ensures rose { OnErr result (Rose self.old.faults self.new.faults) }
-
         ensures quiet { OnOk result (self.new.faults ≡ self.old.faults) }
-        ensures counted { OnErr result (self.new.faults ≡ one_fault_more self.old.faults) }
+        ensures rose { OnErr result (Rose self.old.faults self.new.faults) }
     {
         self.at = place;
         self.since = self.faults;
@@ -212,12 +205,10 @@ impl<'a, R: FileSystem> Files for DiskFiles<'a, R> {
         ensures since { self.new.since ≡ self.old.since }
         ensures names { self.new.names ≡ self.old.names }
 
-        ensures never_falls { self.old.faults ≤ self.new.faults }
+        ensures quiet { OnOk result (self.new.faults ≡ self.old.faults) }
         ensures rose { OnErr result (Rose self.old.faults self.new.faults) }
 
         ensures reads { ReadConsumes self.old.remaining self.new.remaining result buf.new }
-        ensures quiet { OnOk result (self.new.faults ≡ self.old.faults) }
-        ensures counted { OnErr result (self.new.faults ≡ one_fault_more self.old.faults) }
     {
         match &mut self.file {
             Some(file) => match file.read(buf) {

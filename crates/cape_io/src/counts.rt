@@ -1,14 +1,13 @@
 // The counts of calls and of faults.
-ghost use Rattle.std.specs.Prelude.{◌≡◌, ◌≤◌, ◌↔◌, IsErr, OnOk, OnErr, IsTrue, Contains};
-ghost use Rattle.cape_io.specs.Devices.{one_fault_more};
+ghost use Rattle.std.specs.Prelude.{◌≡◌, ◌↔◌, IsErr, OnOk, OnErr, IsTrue, Contains};
+ghost use Rattle.cape_io.specs.Devices.{Rose, one_fault_more};
 ghost use Rattle.cape_io.specs.States.{next_call};
 
 use crate::Failed;
 
 // Counts a fault, up to the last number of the type.
 pub(crate) fn count_fault(faults: &mut u64) -> Failed
-    ensures after { faults.new ≡ one_fault_more faults.old }
-    ensures never_falls { faults.old ≤ faults.new }
+    ensures { Rose faults.old faults.new }
 {
     *faults = faults.saturating_add(1);
     Failed
@@ -53,7 +52,7 @@ impl Counts {
     // Counts a fault.
     pub(crate) fn fault(&mut self) -> Failed
         ensures after { self.new ≡ record self.old { faults = one_fault_more self.old.faults } }
-        ensures never_falls { self.old.faults ≤ self.new.faults }
+        ensures rose { Rose self.old.faults self.new.faults }
     {
         count_fault(&mut self.faults)
     }
@@ -62,9 +61,8 @@ impl Counts {
     pub(crate) fn call(&mut self, fails: &[u64]) -> Result<(), Failed>
         ensures listed { IsErr result ↔ Contains fails.now self.old.calls }
         ensures calls { self.new.calls ≡ next_call self.old.calls }
-        ensures ok { OnOk result (self.new.faults ≡ self.old.faults) }
-        ensures err { OnErr result (self.new.faults ≡ one_fault_more self.old.faults) }
-        ensures never_falls { self.old.faults ≤ self.new.faults }
+        ensures quiet { OnOk result (self.new.faults ≡ self.old.faults) }
+        ensures rose { OnErr result (Rose self.old.faults self.new.faults) }
     {
         let call = self.begin();
         if is_listed(fails, call) {

@@ -1,46 +1,51 @@
 // What a run asks of the outside: bytes in, bytes out, and the files that words name.
-ghost use Rattle.std.specs.Prelude.{◌≡◌, ◌<◌, ◌≤◌, ℕ, List, Option, Bool, true, false, length, take, IfOk, OnOk, OnErr, IsErr};
+ghost use Rattle.std.specs.Prelude.{◌≡◌, ◌<◌, ℕ, List, Option, Bool, true, false, is_ok, length, take, IfOk, OnOk, OnErr, IsErr};
 ghost use Rattle.std.specs.Io.{ReadsAtMost};
 ghost use Rattle.std.specs.Io.KnownBytes.{Appends, Consumes, IsAtEnd, Keeps};
-ghost use Rattle.cape_io.specs.Devices.{Rose, PutsFront, Told, Absent, StartsAt, word_at};
+ghost use Rattle.cape_io.specs.Devices.{Rose, AppendsPrefix, KnownFile, Absent, StartsAt, word_at};
 
-/// A device did not do what it was asked to. Its count of faults rose, or stands at the last
+/// A device did not do what it was asked to. Its count of faults rose by one, or stands at the last
 /// number that a `u64` holds.
 #[derive(Clone, Copy, Debug, PartialEq, Eq)]
 pub struct Failed;
 
 /// Where bytes come from.
 pub trait Source {
-    /// The bytes left, where they are told.
+    /// The bytes left, where they are known.
     ghost left: { Self → Option (List ℕ) };
 
     /// How often the source has failed.
     ghost faults: { Self → ℕ };
 
-    /// Moves the next bytes into the front of the buffer, and answers how many. 0 into a buffer
+    /// Moves the next bytes to the start of the buffer, and answers how many. 0 into a buffer
     /// that is not empty is the end of the input. At `Failed` nothing was moved.
     fn take(&mut self, buf: &mut [u8]) -> Result<usize, Failed>
         ensures bound { ReadsAtMost result buf.new }
         ensures moved { IfOk result (λ n. Consumes (left self.old) (left self.new) (take n buf.new)) }
         ensures ended { IfOk result (λ n. n ≡ 0 → 0 < length buf.new → IsAtEnd (left self.new)) }
         ensures kept { OnErr result (Keeps (left self.old) (left self.new)) }
-        ensures never_falls { faults self.old ≤ faults self.new }
+        ensures quiet { OnOk result (faults self.new ≡ faults self.old) }
         ensures rose { OnErr result (Rose (faults self.old) (faults self.new)) };
 }
 
 /// Where bytes go.
 pub trait Sink {
-    /// The bytes held, where they are told.
+    /// The bytes held, where they are known.
     ghost held: { Self → Option (List ℕ) };
 
     /// How often the sink has failed.
     ghost faults: { Self → ℕ };
 
-    /// Appends the whole piece. At `Failed` it appended some front of the piece.
+    /// What a put of a piece makes of the sink, where it goes and where it fails. By this a caller
+    /// says which pieces it put, and in which order.
+    ghost put_gives: { Self → List ℕ → Bool → Self → Type 0 };
+
+    /// Appends the whole piece. At `Failed` it appended some prefix of the piece.
     fn put(&mut self, piece: &[u8]) -> Result<(), Failed>
         ensures whole { OnOk result (Appends (held self.old) (held self.new) piece.now) }
-        ensures front { OnErr result (PutsFront (held self.old) (held self.new) piece.now) }
-        ensures never_falls { faults self.old ≤ faults self.new }
+        ensures prefix { OnErr result (AppendsPrefix (held self.old) (held self.new) piece.now) }
+        ensures gives { put_gives self.old piece.now (is_ok result) self.new }
+        ensures quiet { OnOk result (faults self.new ≡ faults self.old) }
         ensures rose { OnErr result (Rose (faults self.old) (faults self.new)) };
 }
 
@@ -49,13 +54,13 @@ pub trait Files {
     /// The words that it was made over.
     ghost names: { Self → List (List ℕ) };
 
-    /// What is told of the file of a name.
-    ghost told: { Self → List ℕ → Told };
+    /// What is known of the file of a name.
+    ghost known_file: { Self → List ℕ → KnownFile };
 
     /// Whether a file is open.
     ghost is_open: { Self → Bool };
 
-    /// The bytes left of the open file, where they are told.
+    /// The bytes left of the open file, where they are known.
     ghost left: { Self → Option (List ℕ) };
 
     /// How often the files have failed.
@@ -74,16 +79,16 @@ pub trait Files {
 
         ensures opened { OnOk result (is_open self.new ≡ true) }
         ensures start { OnOk result
-            (StartsAt (told self.old (word_at (names self.old) place)) (left self.new)) }
-        ensures missing { told self.old (word_at (names self.old) place) ≡ Absent → IsErr result }
+            (StartsAt (known_file self.old (word_at (names self.old) place)) (left self.new)) }
+        ensures missing { known_file self.old (word_at (names self.old) place) ≡ Absent → IsErr result }
         ensures closed { OnErr result (is_open self.new ≡ false) }
 
         ensures at { at self.new ≡ place }
         ensures since { since self.new ≡ faults self.old }
         ensures names { names self.new ≡ names self.old }
-        ensures told { told self.new ≡ told self.old }
+        ensures known_file { known_file self.new ≡ known_file self.old }
 
-        ensures never_falls { faults self.old ≤ faults self.new }
+        ensures quiet { OnOk result (faults self.new ≡ faults self.old) }
         ensures rose { OnErr result (Rose (faults self.old) (faults self.new)) };
 
     /// Moves the next bytes of the open file, as `take` of a `Source` does. The file stays open,
@@ -100,8 +105,8 @@ pub trait Files {
         ensures at { at self.new ≡ at self.old }
         ensures since { since self.new ≡ since self.old }
         ensures names { names self.new ≡ names self.old }
-        ensures told { told self.new ≡ told self.old }
+        ensures known_file { known_file self.new ≡ known_file self.old }
 
-        ensures never_falls { faults self.old ≤ faults self.new }
+        ensures quiet { OnOk result (faults self.new ≡ faults self.old) }
         ensures rose { OnErr result (Rose (faults self.old) (faults self.new)) };
 }

@@ -1,9 +1,9 @@
 // Files over memory.
-ghost use Rattle.std.specs.Prelude.{◌≡◌, ◌<◌, ◌≤◌, ◌↔◌, [], Some, None, drop, take, length, map, true, false, is_some, IfOk, IsErr, IsOk, OnOk, OnErr, string_bytes, Contains};
+ghost use Rattle.std.specs.Prelude.{◌≡◌, ◌<◌, ◌↔◌, ℕ, [], Some, None, drop, take, length, map, true, false, is_some, IfOk, IsErr, IsOk, OnOk, OnErr, string_bytes, Contains};
 ghost use Rattle.std.specs.Io.{ReadsAtMost};
 ghost use Rattle.std.specs.Io.KnownBytes.{Consumes, IsAtEnd, Keeps};
 ghost use Rattle.cape_io.specs.Devices.{Absent, Rose, StartsAt, one_fault_more, word_at};
-ghost use Rattle.cape_io.specs.States.{after_taking, bytes_of, bytes_or_none, next_call, told_of_mem, told_of_sure, FailsOpen, GivesWhatFits, KeepsOthers};
+ghost use Rattle.cape_io.specs.States.{after_failed_open, after_open, after_taking, bytes_of, bytes_or_none, new_files, next_call, known_in_mem, known_in_sure, FailsOpen, GivesWhatFits, KeepsOthers};
 
 use crate::counts::Counts;
 use crate::shelf::Shelf;
@@ -65,7 +65,7 @@ impl<'a> SureFiles<'a> {
 impl<'a> Files for SureFiles<'a> {
     ghost names = { λ s. s.names };
 
-    ghost told = { told_of_sure };
+    ghost known_file = { known_in_sure };
 
     ghost is_open = { λ s. is_some s.left };
 
@@ -83,15 +83,15 @@ impl<'a> Files for SureFiles<'a> {
 
         ensures opened { OnOk result (is_some self.new.left ≡ true) }
         ensures start { OnOk result
-            (StartsAt (told_of_sure self.old (word_at self.old.names place)) self.new.left) }
-        ensures missing { told_of_sure self.old (word_at self.old.names place) ≡ Absent → IsErr result }
+            (StartsAt (known_in_sure self.old (word_at self.old.names place)) self.new.left) }
+        ensures missing { known_in_sure self.old (word_at self.old.names place) ≡ Absent → IsErr result }
         ensures closed { OnErr result (is_some self.new.left ≡ false) }
 
         ensures at { self.new.at ≡ place }
         ensures names { self.new.names ≡ self.old.names }
-        ensures told { told_of_sure self.new ≡ told_of_sure self.old }
+        ensures known_file { known_in_sure self.new ≡ known_in_sure self.old }
 
-        ensures never_falls { 0 ≤ 0 }
+        ensures quiet { OnOk result (◌≡◌ {A = ℕ} 0 0) }
         ensures rose { OnErr result (Rose 0 0) }
 
         ensures sure { IsOk result }
@@ -120,14 +120,14 @@ impl<'a> Files for SureFiles<'a> {
         ensures stays_open { is_some self.new.left ≡ true }
         ensures at { self.new.at ≡ self.old.at }
         ensures names { self.new.names ≡ self.old.names }
-        ensures told { told_of_sure self.new ≡ told_of_sure self.old }
+        ensures known_file { known_in_sure self.new ≡ known_in_sure self.old }
 
-        ensures never_falls { 0 ≤ 0 }
+        ensures quiet { OnOk result (◌≡◌ {A = ℕ} 0 0) }
         ensures rose { OnErr result (Rose 0 0) }
 
         ensures sure { IsOk result }
         ensures count { IfOk result (λ n. GivesWhatFits self.old.left (length buf.old) n) }
-        ensures behind { IfOk result (λ n. drop n buf.new ≡ drop n buf.old) }
+        ensures rest { IfOk result (λ n. drop n buf.new ≡ drop n buf.old) }
         ensures after { IfOk result (λ n.
             self.new ≡ record self.old { left = after_taking n self.old.left }) }
     {
@@ -135,7 +135,7 @@ impl<'a> Files for SureFiles<'a> {
     }
 }
 
-/// Files over memory that fail at the calls that they were told, and where a name has no file.
+/// Files over memory that fail at listed calls, and where a name has no file.
 #[derive(Drop)]
 pub struct MemFiles<'a> {
     words: &'a [String],
@@ -168,16 +168,7 @@ impl<'a> MemFiles<'a> {
     /// Files over these words, of which none was added yet and none is open. The calls of `open`
     /// and `take` are numbered together from 0, and those whose numbers stand in `fails` fail.
     pub fn new(alloc: Global, words: &'a [String], fails: &[u64]) -> Result<MemFiles<'a>, NoMemory>
-        ensures { IfOk result (λ files. files ≡ record {
-          names = map string_bytes words.now;
-          files = [];
-          left = None;
-          fails = fails.now;
-          calls = 0;
-          faults = 0;
-          at = 0;
-          since = 0;
-        }) }
+        ensures { IfOk result (λ files. files ≡ new_files (map string_bytes words.now) fails.now) }
     {
         Ok(MemFiles {
             words,
@@ -204,7 +195,7 @@ impl<'a> MemFiles<'a> {
 impl<'a> Files for MemFiles<'a> {
     ghost names = { λ s. s.names };
 
-    ghost told = { told_of_mem };
+    ghost known_file = { known_in_mem };
 
     ghost is_open = { λ s. is_some s.left };
 
@@ -221,32 +212,21 @@ impl<'a> Files for MemFiles<'a> {
 
         ensures opened { OnOk result (is_some self.new.left ≡ true) }
         ensures start { OnOk result
-            (StartsAt (told_of_mem self.old (word_at self.old.names place)) self.new.left) }
-        ensures missing { told_of_mem self.old (word_at self.old.names place) ≡ Absent → IsErr result }
+            (StartsAt (known_in_mem self.old (word_at self.old.names place)) self.new.left) }
+        ensures missing { known_in_mem self.old (word_at self.old.names place) ≡ Absent → IsErr result }
         ensures closed { OnErr result (is_some self.new.left ≡ false) }
 
         ensures at { self.new.at ≡ place }
         ensures since { self.new.since ≡ self.old.faults }
         ensures names { self.new.names ≡ self.old.names }
-        ensures told { told_of_mem self.new ≡ told_of_mem self.old }
+        ensures known_file { known_in_mem self.new ≡ known_in_mem self.old }
 
-        ensures never_falls { self.old.faults ≤ self.new.faults }
+        ensures quiet { OnOk result (self.new.faults ≡ self.old.faults) }
         ensures rose { OnErr result (Rose self.old.faults self.new.faults) }
 
         ensures fails { IsErr result ↔ FailsOpen self.old place }
-        ensures ok { OnOk result (self.new ≡ record self.old {
-          left = bytes_of self.old.files (word_at self.old.names place);
-          calls = next_call self.old.calls;
-          at = place;
-          since = self.old.faults;
-        }) }
-        ensures err { OnErr result (self.new ≡ record self.old {
-          left = None;
-          calls = next_call self.old.calls;
-          faults = one_fault_more self.old.faults;
-          at = place;
-          since = self.old.faults;
-        }) }
+        ensures ok { OnOk result (self.new ≡ after_open self.old place) }
+        ensures err { OnErr result (self.new ≡ after_failed_open self.old place) }
     {
         self.at = place;
         self.since = self.counts.faults;
@@ -272,14 +252,14 @@ impl<'a> Files for MemFiles<'a> {
         ensures at { self.new.at ≡ self.old.at }
         ensures since { self.new.since ≡ self.old.since }
         ensures names { self.new.names ≡ self.old.names }
-        ensures told { told_of_mem self.new ≡ told_of_mem self.old }
+        ensures known_file { known_in_mem self.new ≡ known_in_mem self.old }
 
-        ensures never_falls { self.old.faults ≤ self.new.faults }
+        ensures quiet { OnOk result (self.new.faults ≡ self.old.faults) }
         ensures rose { OnErr result (Rose self.old.faults self.new.faults) }
 
         ensures fails { IsErr result ↔ Contains self.old.fails self.old.calls }
         ensures count { IfOk result (λ n. GivesWhatFits self.old.left (length buf.old) n) }
-        ensures behind { IfOk result (λ n. drop n buf.new ≡ drop n buf.old) }
+        ensures rest { IfOk result (λ n. drop n buf.new ≡ drop n buf.old) }
         ensures untouched { OnErr result (buf.new ≡ buf.old) }
         ensures ok { IfOk result (λ n. self.new ≡ record self.old {
           left = after_taking n self.old.left;

@@ -4,7 +4,7 @@ ghost use Rattle.std.specs.Str.{bytes_eq};
 ghost use Rattle.std.specs.Io.KnownBytes.{Consumes};
 ghost use Rattle.cape_io.specs.States.{after_taking, bytes_of, GivesWhatFits, KeepsOthers};
 
-use crate::sources::move_front;
+use crate::sources::move_prefix;
 use std::alloc::{AllocError as NoMemory, Global};
 use std::marker::Model;
 
@@ -139,16 +139,16 @@ impl Shelf {
         }
     }
 
-    // Moves the next bytes of the open file into the front of the buffer, as many as are left or fit.
+    // Moves the next bytes of the open file to the start of the buffer, as many as are left or fit.
     pub(crate) fn take(&mut self, buf: &mut [u8]) -> usize
         requires { IsSome self.old.left }
         ensures count { GivesWhatFits self.old.left (length buf.old) result }
         ensures moved { Consumes self.old.left self.new.left (take result buf.new) }
-        ensures behind { drop result buf.new ≡ drop result buf.old }
+        ensures rest { drop result buf.new ≡ drop result buf.old }
         ensures after { self.new ≡ record self.old { left = after_taking result self.old.left } }
     {
         let rest = self.rest();
-        let count = move_front(rest, rest.len(), buf);
+        let count = move_prefix(rest, rest.len(), buf);
         self.skip(count);
         count
     }

@@ -1,8 +1,8 @@
 // Sinks over memory.
-ghost use Rattle.std.specs.Prelude.{◌≡◌, ◌+◌, ◌%◌, ◌^◌, ◌≤◌, ◌↔◌, ◌++◌, [], Some, None, take, length, IfOk, IsErr, IsOk, OnOk, OnErr};
+ghost use Rattle.std.specs.Prelude.{◌≡◌, ◌+◌, ◌%◌, ◌^◌, [], Some, None, true, is_ok, length, IfOk, IsOk, OnOk, OnErr};
 ghost use Rattle.std.specs.Io.KnownBytes.{Appends};
-ghost use Rattle.cape_io.specs.Devices.{PutsFront, Rose, one_fault_more};
-ghost use Rattle.cape_io.specs.States.{appended_count, listed_pair, next_call, FailsPut};
+ghost use Rattle.cape_io.specs.Devices.{AppendsPrefix, Rose};
+ghost use Rattle.cape_io.specs.States.{listed_pair, PutsInMem};
 
 use crate::counts::Counts;
 use crate::{Failed, Sink};
@@ -45,6 +45,8 @@ impl Sink for SureSink {
 
     ghost faults = { λ _. 0 };
 
+    ghost put_gives = { λ old piece went new. (went ≡ true) × (new ≡ (old + length piece) % 2 ^ 64) };
+
     fn put(&mut self, piece: &[u8]) -> Result<(), Failed>
         ensures sure { IsOk result }
         ensures count { self.new ≡ (self.old + length piece.now) % 2 ^ 64 }
@@ -54,7 +56,7 @@ impl Sink for SureSink {
     }
 }
 
-/// A sink with room for so many bytes, which fails where it is full and at the puts that it was told.
+/// A sink with room for so many bytes, which fails where it is full and at listed puts.
 #[derive(Drop)]
 pub struct MemSink {
     bytes: Vec<u8>,
@@ -126,25 +128,14 @@ impl Sink for MemSink {
 
     ghost faults = { λ s. s.faults };
 
+    ghost put_gives = { PutsInMem };
+
     fn put(&mut self, piece: &[u8]) -> Result<(), Failed>
         ensures whole { OnOk result (Appends (Some self.old.bytes) (Some self.new.bytes) piece.now) }
-        ensures front { OnErr result
-            (PutsFront (Some self.old.bytes) (Some self.new.bytes) piece.now) }
-        ensures never_falls { self.old.faults ≤ self.new.faults }
+        ensures prefix { OnErr result
+            (AppendsPrefix (Some self.old.bytes) (Some self.new.bytes) piece.now) }
+        ensures gives { PutsInMem self.old piece.now (is_ok result) self.new }
         ensures rose { OnErr result (Rose self.old.faults self.new.faults) }
-
-        ensures fails { IsErr result ↔ FailsPut self.old (length piece.now) }
-        ensures held { self.new.bytes ≡
-            self.old.bytes ++ take (appended_count self.old (length piece.now)) piece.now }
-        ensures ok { OnOk result (self.new ≡ record self.old {
-          bytes = self.new.bytes;
-          calls = next_call self.old.calls;
-        }) }
-        ensures err { OnErr result (self.new ≡ record self.old {
-          bytes = self.new.bytes;
-          calls = next_call self.old.calls;
-          faults = one_fault_more self.old.faults;
-        }) }
     {
         let call = self.counts.begin();
         let fits = piece.len().min(self.room - self.bytes.len());

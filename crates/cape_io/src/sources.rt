@@ -10,11 +10,11 @@ use crate::{Failed, Source};
 use std::alloc::{AllocError as NoMemory, Global};
 use std::marker::Model;
 
-// Moves the front of what is left into the front of the buffer, and answers how many bytes.
-pub(crate) fn move_front(rest: &[u8], step: usize, buf: &mut [u8]) -> usize
+// Moves a prefix of what is left to the start of the buffer, and answers how many bytes.
+pub(crate) fn move_prefix(rest: &[u8], step: usize, buf: &mut [u8]) -> usize
     ensures count { result ≡ given_count (length rest.now) step (length buf.old) }
-    ensures front { rest.now ≡ take result buf.new ++ drop result rest.now }
-    ensures behind { drop result buf.new ≡ drop result buf.old }
+    ensures prefix { rest.now ≡ take result buf.new ++ drop result rest.now }
+    ensures rest { drop result buf.new ≡ drop result buf.old }
 {
     let count = rest.len().min(step.min(buf.len()));
     buf[..count].copy_from_slice(&rest[..count]);
@@ -69,16 +69,16 @@ impl Source for SureSource {
         ensures sure { IsOk result }
         ensures count { IfOk result (λ n.
             n ≡ given_count (length self.old.left) self.old.step (length buf.old)) }
-        ensures behind { IfOk result (λ n. drop n buf.new ≡ drop n buf.old) }
+        ensures rest { IfOk result (λ n. drop n buf.new ≡ drop n buf.old) }
         ensures after { IfOk result (λ n. self.new ≡ record self.old { left = drop n self.old.left }) }
     {
-        let count = move_front(&self.bytes[self.taken..], self.step, buf);
+        let count = move_prefix(&self.bytes[self.taken..], self.step, buf);
         self.taken += count;
         Ok(count)
     }
 }
 
-/// A source over bytes that fails at the calls that it was told.
+/// A source over bytes that fails at listed calls.
 #[derive(Drop)]
 pub struct MemSource {
     source: SureSource,
@@ -138,13 +138,12 @@ impl Source for MemSource {
         ensures ended { IfOk result (λ n.
             n ≡ 0 → 0 < length buf.new → IsAtEnd (Some self.new.left)) }
         ensures kept { OnErr result (Keeps (Some self.old.left) (Some self.new.left)) }
-        ensures never_falls { self.old.faults ≤ self.new.faults }
         ensures rose { OnErr result (Rose self.old.faults self.new.faults) }
 
         ensures fails { IsErr result ↔ Contains self.old.fails self.old.calls }
         ensures count { IfOk result (λ n.
             n ≡ given_count (length self.old.left) self.old.step (length buf.old)) }
-        ensures behind { IfOk result (λ n. drop n buf.new ≡ drop n buf.old) }
+        ensures rest { IfOk result (λ n. drop n buf.new ≡ drop n buf.old) }
         ensures untouched { OnErr result (buf.new ≡ buf.old) }
         ensures ok { IfOk result (λ n. self.new ≡ record self.old {
           left = drop n self.old.left;

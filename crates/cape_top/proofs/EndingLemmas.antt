@@ -2,7 +2,7 @@
 use Rattle.std.proofs.Common.{◌≡◌, ◌⊎◌, inl, inr, ℕ, Bool, false, true, List, [], ◌++◌, Option, Some, None, refl, sym, ap, subst, append_assoc, append-nil, take, drop, IfSome, option_map}
 use Rattle.std.specs.Io.KnownBytes.{Appends}
 use Rattle.std.proofs.lemmas.List.{take-append-drop}
-use Rattle.cape_io.specs.Devices.{PutsFront}
+use Rattle.cape_io.specs.Devices.{AppendsPrefix}
 use Rattle.elf_load.specs.declared.loaded.Loaded.{Loaded}
 use Rattle.rvv_meaning.specs.declared.Mode.{Mode}
 use Rattle.rvv_meaning.specs.declared.Mode.TheVariants.{Running, Exited, Trapped, Unbuilt}
@@ -10,8 +10,8 @@ use Rattle.rvv_meaning.specs.States.{State, run}
 use Rattle.rvv_meaning.specs.Texts.{report, report_at}
 use Rattle.machine.specs.declared.answers.Step.{Step}
 use Rattle.machine.specs.declared.answers.Step.TheVariants.{Ran, Exited as SaysExited, Trapped as SaysTrapped, Unbuilt as SaysUnbuilt}
-use Rattle.machine.specs.Answers.{answer_of}
-use Rattle.machine.specs.Moments.{Held, Moment, moments, first_moment, slices_after}
+use Rattle.machine.specs.Answers.{step_for}
+use Rattle.machine.specs.Moments.{Held, Moment, moments, first_moment, counts_after, slices_after}
 use Rattle.machine.specs.Views.{GoesBy, FaultsIn, ReadsIn}
 use Rattle.machine.proofs.Showing.{appends_more}
 use Rattle.machine.proofs.Runs.{state_run}
@@ -20,12 +20,12 @@ use Rattle.command_words.specs.declared.words.RunOptions.{RunOptions}
 use Rattle.cape_top.specs.declared.ending.Status.{Status}
 use Rattle.cape_top.specs.declared.ending.Status.TheVariants.{NoMemory}
 use Rattle.cape_top.specs.Statuses.{IsOfRun, IsFault, KeepsMachine}
-use Rattle.cape_top.specs.Views.{DeviceViews, Devices}
+use Rattle.cape_io.specs.Views.{DeviceViews, Devices, SinkView}
 use Rattle.cape_top.specs.Endings.{Ending, Ends, EndsBy, IsAt, Keeps, Kept, ReadsWithin, WritesPrefixes, end_text, ending_at, ending_from, kept_after, state_if, status_for}
 use Rattle.cape_top.specs.Runs.{LoadedEnds, LoadedReads, MachineEnds, MachineReads, ShowsFirst, loaded_start, moment_ending}
 use Rattle.cape_top.proofs.StatusLemmas.{ends_so, ends_in_fault, kept_or_none, run_ended, run_of_answer}
 
-line_is_report : (mode : Mode) (n : ℕ) → line_of (answer_of mode) n ≡ report_at mode n
+line_is_report : (mode : Mode) (n : ℕ) → line_of (step_for mode) n ≡ report_at mode n
 line_is_report Running n = refl
 line_is_report (Exited c) n = refl
 line_is_report (Trapped t) n = refl
@@ -39,45 +39,51 @@ keeps_held SaysUnbuilt k machine is = refl
 
 -- how a run ends, stated on the state of the last moment
 abbrev last_ending : RunOptions → Moment → Ending
-last_ending options m = ending_at options.state m.state m.slices
+last_ending options m = ending_at options.state record { state = m.state; slices = m.slices; counts = m.counts }
 
 ending_run : (options : RunOptions) (m : Moment) → moment_ending options m ≡ last_ending options (moments m options.steps)
-ending_run options m = ap (λ (s : State). ending_at options.state s (moments m options.steps).slices) (sym (state_run options.steps m))
+ending_run options m =
+    let last = moments m options.steps in
+    ap (λ (s : State). ending_at options.state record { state = s; slices = last.slices; counts = last.counts }) (sym (state_run options.steps m))
 
 -- the text at the end is that of the last state
-end_is_report : (with_state : Bool) (machine : Held) (a : Step) (s : State) → s.core ≡ machine.core → a ≡ answer_of machine.core.mode
-    → end_text a with_state machine.core ≡ report s ++ state_if with_state (answer_of s.core.mode) s.core
+end_is_report : (with_state : Bool) (machine : Held) (a : Step) (s : State) → s.core ≡ machine.core → a ≡ step_for machine.core.mode
+    → end_text a with_state machine.core ≡ report s ++ state_if with_state (step_for s.core.mode) s.core
 end_is_report with_state machine a s holds answered = rw (answered, holds, line_is_report machine.core.mode machine.core.csrs.retired) refl
 
-module _ (options : RunOptions) (machine machine' : Held) (d : Devices) (mid : Option (List ℕ)) (answer : Step)
-    (goes : GoesBy (λ m. moments m options.steps) false machine machine' d.old.input.left d.new.input.left d.old.out.held d.new.out.held d.old.err.held mid)
+-- the devices before a run, after it, and after the report that follows it
+abbrev pub with_report : (v v' : DeviceViews) → SinkView → Devices
+with_report v v' err = record { old = v; new = record { input = v'.input; out = v'.out; err = err } }
+
+module _ (options : RunOptions) (machine machine' : Held) (v v' : DeviceViews) (err : SinkView) (answer : Step)
+    (goes : GoesBy (λ m. moments m options.steps) false machine machine' record { old = v; new = v' })
     (live : machine'.live ≡ true)
-    (answered : answer ≡ answer_of machine'.core.mode)
+    (answered : answer ≡ step_for machine'.core.mode)
   where
-    ended_by : Appends mid d.new.err.held (end_text answer options.state machine'.core) → (m : Moment) → ShowsFirst m machine d.old
-        → EndsBy (status_for answer) (kept_after answer machine') d (moment_ending options m)
+    ended_by : Appends v'.err.held err.held (end_text answer options.state machine'.core) → (m : Moment) → ShowsFirst m machine v
+        → EndsBy (status_for answer) (kept_after answer machine') (with_report v v' err) (moment_ending options m)
     ended_by put m shows =
-        let t = goes m _ _ shows in
+        let t = goes m v shows in
         let s = (moments m options.steps).state in
         let text = end_is_report options.state machine' answer s t.holds answered in
         rw (ending_run options m) record {
           status_is = rw (answered, t.holds) refl;
-          keeps = rw (answered, t.holds) (keeps_held (answer_of machine'.core.mode) _ machine' record { core = sym t.holds; slices = sym t.slices; live = live });
-          leaves = t.told;
+          keeps = rw (answered, t.holds) (keeps_held (step_for machine'.core.mode) _ machine' record { core = sym t.holds; slices = sym t.slices; counts = sym t.counts; live = live });
+          leaves = t.known;
           gains_out = t.gained_out;
-          gains_err = rw (← text) (appends_more d.old.err.held mid d.new.err.held s.errors (end_text answer options.state machine'.core) t.gained_err put);
+          gains_err = rw (← text) (appends_more v.err.held v'.err.held err.held s.errors (end_text answer options.state machine'.core) t.gained_err put);
         }
 
     -- the end was written
     pub machine_ended : (s : Status) (kept : Option Held) → s ≡ status_for answer → kept ≡ kept_after answer machine'
-        → Appends mid d.new.err.held (end_text answer options.state machine'.core) → MachineEnds machine options d s kept
+        → Appends v'.err.held err.held (end_text answer options.state machine'.core) → MachineEnds machine options (with_report v v' err) s kept
     machine_ended s kept is keeps put =
-        λ m shows. rw (is, keeps) (ends_so _ d _ _ (run_ended _ (run_of_answer answer)) (kept_or_none answer machine') (ended_by put m shows))
+        λ m shows. rw (is, keeps) (ends_so _ (with_report v v' err) _ _ (run_ended _ (run_of_answer answer)) (kept_or_none answer machine') (ended_by put m shows))
 
-    report_prefixes : PutsFront mid d.new.err.held (end_text answer options.state machine'.core) → (m : Moment) → ShowsFirst m machine d.old
-        → WritesPrefixes d (moment_ending options m)
+    report_prefixes : AppendsPrefix v'.err.held err.held (end_text answer options.state machine'.core) → (m : Moment) → ShowsFirst m machine v
+        → WritesPrefixes (with_report v v' err) (moment_ending options m)
     report_prefixes put m shows =
-        let t = goes m _ _ shows in
+        let t = goes m v shows in
         let s = (moments m options.steps).state in
         let line = end_text answer options.state machine'.core in
         let text = end_is_report options.state machine' answer s t.holds answered in
@@ -85,22 +91,22 @@ module _ (options : RunOptions) (machine machine' : Held) (d : Devices) (mid : O
           gains_out = (s.output, t.gained_out, ([], sym (append-nil s.output)));
           gains_err = (
             s.errors ++ take put.0 line,
-            appends_more d.old.err.held mid d.new.err.held s.errors (take put.0 line) t.gained_err put.2,
+            appends_more v.err.held v'.err.held err.held s.errors (take put.0 line) t.gained_err put.2,
             (drop put.0 line, rw (← text, append_assoc s.errors (take put.0 line) (drop put.0 line), take-append-drop put.0 line) refl),
           );
         }
 
     -- the end could not be written
     pub report_fails : (s : Status) (kept : Option Held) → IsFault s → kept ≡ None
-        → PutsFront mid d.new.err.held (end_text answer options.state machine'.core) → MachineEnds machine options d s kept
-    report_fails s kept fault none put = λ m shows. ends_in_fault _ d s kept fault none (report_prefixes put m shows)
+        → AppendsPrefix v'.err.held err.held (end_text answer options.state machine'.core) → MachineEnds machine options (with_report v v' err) s kept
+    report_fails s kept fault none put = λ m shows. ends_in_fault _ (with_report v v' err) s kept fault none (report_prefixes put m shows)
 
-run_prefixes : (options : RunOptions) (machine : Held) (d : Devices) → FaultsIn (λ m. moments m options.steps) false machine d.old.input.left d.old.out.held d.new.out.held d.old.err.held d.new.err.held
+run_prefixes : (options : RunOptions) (machine : Held) (d : Devices) → FaultsIn (λ m. moments m options.steps) false machine d
     → (m : Moment) → ShowsFirst m machine d.old → WritesPrefixes d (moment_ending options m)
 run_prefixes options machine d faults m shows =
-    let f = faults m _ _ shows in
+    let f = faults m d.old shows in
     let t = (moments m options.steps).state in
-    let rest = report t ++ state_if options.state (answer_of t.core.mode) t.core in
+    let rest = report t ++ state_if options.state (step_for t.core.mode) t.core in
     rw (ending_run options m) record {
       gains_out = f.0;
       gains_err = (f.1.0, f.1.1, (f.1.2.0 ++ rest, rw f.1.2.1 (append_assoc f.1.0 f.1.2.0 rest)));
@@ -108,14 +114,14 @@ run_prefixes options machine d faults m shows =
 
 -- a device failed in the run
 pub run_fails : (options : RunOptions) (machine : Held) (d : Devices) (s : Status) (kept : Option Held) → IsFault s → kept ≡ None
-    → FaultsIn (λ m. moments m options.steps) false machine d.old.input.left d.old.out.held d.new.out.held d.old.err.held d.new.err.held → MachineEnds machine options d s kept
+    → FaultsIn (λ m. moments m options.steps) false machine d → MachineEnds machine options d s kept
 run_fails options machine d s kept fault none faults = λ m shows. ends_in_fault _ d s kept fault none (run_prefixes options machine d faults m shows)
 
 -- a read of the run that fails is at one of its steps
-pub reads_in : (options : RunOptions) (machine : Held) (v : DeviceViews) → ReadsIn options.steps false machine v.input.left v.out.held v.err.held → MachineReads machine options v
+pub reads_in : (options : RunOptions) (machine : Held) (v : DeviceViews) → ReadsIn options.steps false machine v → MachineReads machine options v
 reads_in options machine v reads = λ m shows.
-    let r = reads m _ _ shows in
-    (r.0, r.1, rw (← state_run r.0 m) r.2, rw (← state_run r.0 m) r.3)
+    let r = reads m v shows in
+    (r.0, r.1, rw (← state_run r.0 m) r.2.0, rw (← state_run r.0 m) r.2.1)
 
 module _ (options : RunOptions) (l : Loaded) (machine : Held)
   where
@@ -129,7 +135,7 @@ module _ (options : RunOptions) (l : Loaded) (machine : Held)
 
     ends_known : (d : Devices) (s : Status) (kept : Option Held) → IsOfRun s ⊎ IsFault s → KeepsMachine s ⊎ (kept ≡ None) → MachineEnds machine options d s kept → Opens d.old
         → (left : Option (List ℕ)) → d.old.input.left ≡ left → Ends (option_map (λ input. ending_from options (loaded_start options l input)) left) d s kept
-    unfolding slices_after
+    unfolding slices_after counts_after
     ends_known d s kept only keeps ends opens None is = record { ended = λ ended. tt; failed = λ failed. tt; lacking = λ lacks. absurd (no_lack s only lacks); keeps_or_none = keeps }
     ends_known d s kept only keeps ends opens (Some input) is = ends (first_moment (loaded_start options l input)) (opens input is)
 

@@ -9,7 +9,7 @@ use Rattle.elf_load.specs.Faults.{fault, image_limit}
 use Rattle.elf_load.specs.declared.faults.LoadFault.TheVariants.{TooBig}
 use Rattle.elf_load.specs.declared.loaded.Loaded.{Loaded}
 use Rattle.elf_load.specs.declared.faults.LoadFault.{LoadFault}
-use Rattle.cape_io.specs.Devices.{Told, Untold, Absent, Present}
+use Rattle.cape_io.specs.Devices.{KnownFile, Unknown, Absent, Present}
 use Rattle.cape_top.specs.declared.loading.Stop.{Stop}
 use Rattle.cape_top.specs.declared.loading.Stop.TheVariants.{ReadFault, NoMemory, Refused}
 use Rattle.cape_top.specs.Reading.{read_limit, IsFaultOf, IsLoadedFrom, IsLoadedOf, IsReadOf, IsStopOf}
@@ -60,23 +60,23 @@ pub no_error : {A E : Type 0} (r : Result A E) → false ≡ is_err r → IsErr 
 no_error r is error = true≢false (sym error ∙ sym is)
 
 -- what was read, as far as the file is known
-pub read_of : (known : Told) (items : List ℕ) → (known ≡ Absent → ⊥) → ((bytes : List ℕ) → known ≡ Present bytes → items ≡ take read_limit bytes) → IsReadOf known items
-read_of Untold items there read = tt
+pub read_of : (known : KnownFile) (items : List ℕ) → (known ≡ Absent → ⊥) → ((bytes : List ℕ) → known ≡ Present bytes → items ≡ take read_limit bytes) → IsReadOf known items
+read_of Unknown items there read = tt
 read_of Absent items there read = there refl
 read_of (Present bytes) items there read = read bytes refl
 
-pub loaded_of : (known : Told) (items : List ℕ) (loaded : Loaded) → IsReadOf known items → IsLoadedFrom items loaded → IsLoadedOf known loaded
-loaded_of Untold items loaded read from = tt
+pub loaded_of : (known : KnownFile) (items : List ℕ) (loaded : Loaded) → IsReadOf known items → IsLoadedFrom items loaded → IsLoadedOf known loaded
+loaded_of Unknown items loaded read from = tt
 loaded_of Absent items loaded read from = read
 loaded_of (Present image) items loaded read from = loaded_read image items loaded read from
 
-pub fault_of : (known : Told) (items : List ℕ) (f : LoadFault) → IsReadOf known items → fault items ≡ Some f → IsFaultOf known f
-fault_of Untold items f read is = tt
+pub fault_of : (known : KnownFile) (items : List ℕ) (f : LoadFault) → IsReadOf known items → fault items ≡ Some f → IsFaultOf known f
+fault_of Unknown items f read is = tt
 fault_of Absent items f read is = read
 fault_of (Present image) items f read is = sym (fault_read image items read) ∙ is
 
 -- an image without a fault, or one that memory does not suffice for
-pub stop_of : (known : Told) (s : Stop) → ((f : LoadFault) → s ≡ Refused f → IsFaultOf known f) → IsStopOf known s
+pub stop_of : (known : KnownFile) (s : Stop) → ((f : LoadFault) → s ≡ Refused f → IsFaultOf known f) → IsStopOf known s
 stop_of known (Refused f) faults = faults f refl
 stop_of known ReadFault faults = tt
 stop_of known NoMemory faults = tt

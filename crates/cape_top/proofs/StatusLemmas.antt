@@ -2,15 +2,15 @@
 use Rattle.std.proofs.Common.{◌≡◌, ◌⊎◌, inl, inr, Option, Some, None, refl, sym, subst, IfSome, List, [], take, drop, ℕ}
 use Rattle.std.specs.Io.KnownBytes.{Appends}
 use Rattle.std.proofs.lemmas.List.{take-append-drop}
-use Rattle.cape_io.specs.Devices.{PutsFront}
+use Rattle.cape_io.specs.Devices.{AppendsPrefix}
 use Rattle.machine.specs.Moments.{Held}
-use Rattle.machine.specs.Views.{GainsFront}
+use Rattle.machine.specs.Views.{GainsPrefix}
 use Rattle.machine.specs.declared.answers.Step.{Step}
 use Rattle.machine.specs.declared.answers.Step.TheVariants.{Ran, Exited, Trapped, Unbuilt}
 use Rattle.cape_top.specs.declared.ending.Status.{Status}
 use Rattle.cape_top.specs.declared.ending.Status.TheVariants.{Done, StepLimit, Refused, Usage, ReadFault, WriteFault, NoMemory, Exited as ExitedWith, Trapped as HasTrapped, Unbuilt as NotBuilt}
 use Rattle.cape_top.specs.Statuses.{IsEnded, IsFault, IsOfRun, KeepsMachine}
-use Rattle.cape_top.specs.Views.{Devices}
+use Rattle.cape_io.specs.Views.{Devices}
 use Rattle.cape_top.specs.Calls.{WritesNothing}
 use Rattle.cape_top.specs.Endings.{Ending, Ends, EndsBy, WritesPrefixes, kept_after, status_for}
 
@@ -80,10 +80,10 @@ module _ (e : Option Ending) (d : Devices) (s : Status) (kept : Option Held)
     }
 
 -- nothing is a prefix of any text
-pub prefix_none : (first held : Option (List ℕ)) (whole : List ℕ) → Appends first held [] → GainsFront first held whole
+pub prefix_none : (first held : Option (List ℕ)) (whole : List ℕ) → Appends first held [] → GainsPrefix first held whole
 prefix_none first held whole nothing = ([], nothing, (whole, refl))
 
-pub prefix_put : (first held : Option (List ℕ)) (whole : List ℕ) → PutsFront first held whole → GainsFront first held whole
+pub prefix_put : (first held : Option (List ℕ)) (whole : List ℕ) → AppendsPrefix first held whole → GainsPrefix first held whole
 prefix_put first held whole put = (take put.0 whole, put.2, (drop put.0 whole, sym (take-append-drop put.0 whole)))
 
 -- where nothing was written, each sink gained a prefix of any text

@@ -1,17 +1,17 @@
 -- What the files and the devices show of one call, as one value.
 use Rattle.std.specs.Prelude.{◌≡◌, ◌⊎◌, ℕ, List, []}
 use Rattle.std.specs.Io.KnownBytes.{Appends}
-use Rattle.cape_io.specs.Devices.{Rose, Told, word_at}
+use Rattle.cape_io.specs.Devices.{Rose, KnownFile, word_at}
 use Rattle.cape_io.specs.declared.devices.Files.{Ghosts as FilesGhosts}
 use Rattle.cape_io.specs.declared.devices.Source.{Ghosts as SourceGhosts}
 use Rattle.cape_io.specs.declared.devices.Sink.{Ghosts as SinkGhosts}
-use Rattle.cape_top.specs.Views.{Devices, devices}
+use Rattle.cape_io.specs.Views.{Devices, devices}
 
 -- The files: the words that they were made over, what is known of the file of each name, the count of faults before the
 -- call and after it, and after it the place that was opened last and the count as that began.
 pub record FilesCall : Type 0 where
   pub names : List (List ℕ)
-  pub known : List ℕ → Told
+  pub known : List ℕ → KnownFile
   pub faults_before : ℕ
   pub faults_after : ℕ
   pub at : ℕ
@@ -20,7 +20,7 @@ pub record FilesCall : Type 0 where
 abbrev pub files_call : {F : Type 0} → FilesGhosts F → F → F → FilesCall
 files_call f files files' = record {
   names = f.names files;
-  known = f.told files;
+  known = f.known_file files;
   faults_before = f.faults files;
   faults_after = f.faults files';
   at = f.at files';
@@ -41,17 +41,13 @@ call f s o e files files' input input' out out' err err' = record {
 }
 
 -- what is known of the file of the word at a place
-abbrev pub known_at : ℕ → Call → Told
+abbrev pub known_at : ℕ → Call → KnownFile
 known_at place c = c.files.known (word_at c.files.names place)
 
--- Each sink gained its text, where its bytes are known.
-pub record Writes (out err : List ℕ) (d : Devices) : Type 0 where
-  pub gains_out : Appends d.old.out.held d.new.out.held out
-  pub gains_err : Appends d.old.err.held d.new.err.held err
-
 -- Nothing was written.
-abbrev pub WritesNothing : Devices → Type 0
-WritesNothing d = Writes [] [] d
+pub record WritesNothing (d : Devices) : Type 0 where
+  pub gains_out : Appends d.old.out.held d.new.out.held []
+  pub gains_err : Appends d.old.err.held d.new.err.held []
 
 -- The count of the input rose.
 abbrev pub InputRose : Devices → Type 0

@@ -1,20 +1,21 @@
 -- How a command ends: its status, its texts, and what it leaves, by the image and by the state that its run reaches.
 use Rattle.std.specs.Prelude.{◌≡◌, ◌<◌, ◌⊎◌, ⊤, ℕ, Bool, List, [], ◌++◌, map, Option, Some, None, true, MatchOption, IfSome, option_map, if◌then◌else◌}
 use Rattle.std.specs.Io.KnownBytes.{Appends}
-use Rattle.cape_io.specs.Devices.{Told, Untold, Absent, Present}
+use Rattle.cape_io.specs.Devices.{KnownFile, Unknown, Absent, Present}
 use Rattle.elf_load.specs.Faults.{fault}
 use Rattle.elf_load.specs.Fields.{entry}
 use Rattle.elf_load.specs.Layout.{regions, span_of}
 use Rattle.elf_load.specs.declared.faults.LoadFault.{LoadFault}
 use Rattle.bit_rows.specs.Slices.{Slices}
 use Rattle.cam_chain.specs.ChainValue.{slices_of}
+use Rattle.cam_chain.specs.declared.counts.Counts.{Counts}
 use Rattle.guest_env.specs.Answers.{IsReading}
 use Rattle.rvv_meaning.specs.States.{State, Core, run}
 use Rattle.rvv_meaning.specs.Texts.{report, usage_line}
-use Rattle.machine.specs.Answers.{answer_of}
-use Rattle.machine.specs.Moments.{Held, slices_after}
+use Rattle.machine.specs.Answers.{step_for}
+use Rattle.machine.specs.Moments.{Held, counts_after, slices_after}
 use Rattle.machine.specs.Opening.{start}
-use Rattle.machine.specs.Views.{CallsAt, GainsFront}
+use Rattle.machine.specs.Views.{CallsAt, GainsPrefix}
 use Rattle.machine.specs.declared.answers.Step.{Step}
 use Rattle.machine.specs.declared.answers.Step.TheVariants.{Ran, Exited, Trapped, Unbuilt}
 use Rattle.command_words.specs.declared.words.Command.{Command}
@@ -23,7 +24,7 @@ use Rattle.command_words.specs.declared.words.RunOptions.{RunOptions}
 use Rattle.cape_top.specs.declared.ending.Status.{Status}
 use Rattle.cape_top.specs.declared.ending.Status.TheVariants.{Done, StepLimit, Refused, Usage, ReadFault, NoMemory, Exited as ExitedWith, Trapped as HasTrapped, Unbuilt as NotBuilt}
 use Rattle.cape_top.specs.Statuses.{IsEnded, IsFault, KeepsMachine}
-use Rattle.cape_top.specs.Views.{Devices}
+use Rattle.cape_io.specs.Views.{Devices}
 use Rattle.cape_top.specs.Calls.{WritesNothing}
 use Rattle.report_texts.specs.Lines.{line_of, refused_line}
 use Rattle.report_texts.specs.Layouts.{layout_text}
@@ -54,15 +55,17 @@ state_if with_state answer c = if with_state then state_text_after answer c else
 abbrev pub end_text : Step → Bool → Core → List ℕ
 end_text answer with_state c = line_of answer c.csrs.retired ++ state_if with_state answer c
 
--- a state with the state of the slices in it
+-- what is kept of a run: its last state, the state of the slices in it, and the searches, updates and passes that it made
 pub record Kept : Type 0 where
   pub state : State
   pub slices : Slices
+  pub counts : Counts
 
--- the machine is live and in this state, with these slices
+-- The machine is live and in this state, with these slices, and made these searches, updates and passes.
 pub record IsAt (k : Kept) (machine : Held) : Type 0 where
   pub core : machine.core ≡ k.state.core
   pub slices : slices_of machine.chain ≡ k.slices
+  pub counts : machine.chain.counts ≡ k.counts
   pub live : machine.live ≡ true
 
 -- the machine that is kept is at what is to be kept, and there is none where nothing is
@@ -78,21 +81,26 @@ pub record Ending : Type 0 where
   pub out : List ℕ
   pub err : List ℕ
 
--- how a run that reaches this state with these slices ends
-abbrev pub ending_at : Bool → State → Slices → Ending
-ending_at with_state s slices =
-    let answer = answer_of s.core.mode in
+-- how a run ends that reaches this
+abbrev pub ending_at : Bool → Kept → Ending
+ending_at with_state k =
+    let s = k.state in
+    let answer = step_for s.core.mode in
     record {
       status = status_for answer;
-      kept = kept_after answer record { state = s; slices = slices };
+      kept = kept_after answer k;
       left = Some s.input;
       out = s.output;
       err = s.errors ++ (report s ++ state_if with_state answer s.core);
     }
 
+-- what n steps from a state reach: the slices are those that the programs of the steps leave, and the counts are theirs
+abbrev pub reached : State → ℕ → Kept
+reached s n = record { state = run s n; slices = slices_after s n; counts = counts_after s n }
+
 -- how a run from a state with these options ends
 abbrev pub ending_from : RunOptions → State → Ending
-ending_from options s = ending_at options.state (run s options.steps) (slices_after s options.steps)
+ending_from options s = ending_at options.state (reached s options.steps)
 
 -- how a call ends that neither reads the input nor keeps a machine, by its status and its texts
 abbrev pub ending_without_run : Status → (out err : List ℕ) → Option (List ℕ) → Ending
@@ -123,8 +131,8 @@ image_ending (Some f) command image left = Some (refused_ending f left)
 image_ending None command image left = loaded_ending command image left
 
 -- How a command on a file ends, as far as the file and the input are known.
-unfoldable pub command_ending : Command → Told → Option (List ℕ) → Option Ending
-command_ending command Untold left = None
+unfoldable pub command_ending : Command → KnownFile → Option (List ℕ) → Option Ending
+command_ending command Unknown left = None
 command_ending command Absent left = Some (absent_ending left)
 command_ending command (Present image) left = image_ending (fault image) command image left
 
@@ -138,8 +146,8 @@ pub record EndsBy (status : Status) (kept : Option Held) (d : Devices) (e : Endi
 
 -- Each sink gained a prefix of its text.
 pub record WritesPrefixes (d : Devices) (e : Ending) : Type 0 where
-  pub gains_out : GainsFront d.old.out.held d.new.out.held e.out
-  pub gains_err : GainsFront d.old.err.held d.new.err.held e.err
+  pub gains_out : GainsPrefix d.old.out.held d.new.out.held e.out
+  pub gains_err : GainsPrefix d.old.err.held d.new.err.held e.err
 
 -- What a call promises of how it ends, where that is known.
 pub record Ends (e : Option Ending) (d : Devices) (status : Status) (kept : Option Held) : Type 0 where
@@ -161,7 +169,7 @@ abbrev pub ReadsInput : RunOptions → (image input : List ℕ) → Type 0
 ReadsInput options image input = (fault image ≡ None) × ReadsWithin (start image options.vlen options.policy input) options.steps
 
 -- A command reads bytes of the input, as far as its file and the input are known. A check never does.
-abbrev pub ReadsKnown : Command → Told → Option (List ℕ) → Type 0
+abbrev pub ReadsKnown : Command → KnownFile → Option (List ℕ) → Type 0
 ReadsKnown (Run options) (Present image) (Some input) = ReadsInput options image input
 ReadsKnown (Run options) _ _ = ⊤
 ReadsKnown Check _ _ = ⊥

@@ -1,7 +1,6 @@
 -- What the top call promises.
 pub mod Codes
 pub mod Statuses
-pub mod Views
 pub mod Calls
 pub mod Reading
 pub mod Endings

@@ -3,7 +3,7 @@ use Rattle.std.specs.Prelude.{◌≡◌, ◌⊎◌, ℕ, List, Option, Some, Non
 use Rattle.std.specs.Option.{option_map_or}
 use Rattle.std.specs.declared.alloc.Global.{Global}
 use Rattle.std.specs.declared.string.String.{String}
-use Rattle.cape_io.specs.Devices.{Absent, Told, word_at}
+use Rattle.cape_io.specs.Devices.{Absent, KnownFile, word_at}
 use Rattle.command_words.specs.Grammar.{command_of, IsRun}
 use Rattle.command_words.specs.declared.words.Command.{Command}
 use Rattle.command_words.specs.declared.words.Command.TheVariants.{Check}
@@ -23,7 +23,7 @@ abbrev pub operand : ℕ
 operand = 1
 
 -- what is known of the file that the words name
-abbrev pub known_file : List (List ℕ) → Call → Told
+abbrev pub known_file : List (List ℕ) → Call → KnownFile
 known_file words c = c.files.known (word_at words operand)
 
 -- how a command on the file of the word at a place ends, as far as that is known
@@ -50,12 +50,12 @@ pub record FileFails (place : ℕ) (c : Call) : Type 0 where
   pub nothing : WritesNothing c.devices
 
 -- The input failed in a run, and, where this is known, one of the run's steps reads bytes.
-pub record InputFails (command : Command) (known : Told) (c : Call) : Type 0 where
+pub record InputFails (command : Command) (known : KnownFile) (c : Call) : Type 0 where
   pub rose : InputRose c.devices
   pub reads : ReadsKnown command known c.devices.old.input.left
 
 -- Why a command on a file of which this is known could not read.
-abbrev pub ReadFails : Command → ℕ → Told → Call → Type 0
+abbrev pub ReadFails : Command → ℕ → KnownFile → Call → Type 0
 ReadFails command place known c = FileFails place c ⊎ InputFails command known c
 
 -- a command on the file of the word at a place could not read only for such a cause

@@ -8,16 +8,18 @@ use Rattle.rvv_meaning.specs.Images.{start_state}
 use Rattle.rvv_meaning.specs.States.{State, run}
 use Rattle.command_words.specs.declared.words.RunOptions.{RunOptions}
 use Rattle.cape_top.specs.declared.ending.Status.{Status}
-use Rattle.cape_top.specs.Views.{DeviceViews, Devices}
+use Rattle.cape_io.specs.Views.{DeviceViews, Devices}
 use Rattle.cape_top.specs.Endings.{Ending, Ends, ReadsWithin, ending_at, ending_from}
 
 -- The machine and the devices show this moment, of which nothing was written yet.
 abbrev pub ShowsFirst : Moment → Held → DeviceViews → Type 0
-ShowsFirst m machine v = Shows false m machine v.input.left v.out.held v.out.held v.err.held v.err.held
+ShowsFirst m machine v = Shows false m machine v v
 
 -- how a run from a moment with these options ends
 abbrev pub moment_ending : RunOptions → Moment → Ending
-moment_ending options m = ending_at options.state (run m.state options.steps) (moments m options.steps).slices
+moment_ending options m =
+    let last = moments m options.steps in
+    ending_at options.state record { state = run m.state options.steps; slices = last.slices; counts = last.counts }
 
 -- Whatever moment the machine and the devices show, the run from it ends as it should.
 abbrev pub MachineEnds : Held → RunOptions → Devices → Status → Option Held → Type 0

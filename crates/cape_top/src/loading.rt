@@ -34,7 +34,7 @@ fn read_piece<F: Files>(files: &mut F, image: &mut Vec<u8>) -> Result<bool, Stop
     ensures limit { OnOk result (vec_len image.new ≤ LIMIT) }
     ensures open { F.is_open files.new ≡ true }
     ensures cause { IsErrOf result Stop.ReadFault → Rose (F.faults files.old) (F.faults files.new) }
-    ensures later { F.faults files.old ≤ F.faults files.new }
+    ensures quiet { OnOk result (F.faults files.new ≡ F.faults files.old) }
     ensures own { IfErr result (λ stop. ¬ IsRefusal stop) }
     ensures at { F.at files.new ≡ F.at files.old }
     ensures since { F.since files.new ≡ F.since files.old }
@@ -53,11 +53,10 @@ fn read_piece<F: Files>(files: &mut F, image: &mut Vec<u8>) -> Result<bool, Stop
 // The bytes of the file of the word at a place, up to the limit. Each turn takes at least one byte or is the last.
 fn read_image<F: Files>(alloc: Global, files: &mut F, place: usize) -> Result<Vec<u8>, Stop>
     requires place { place < length (F.names files.old) }
-    ensures read { IfOk result (λ image. IsReadOf (F.told files.old (word_at (F.names files.old) place)) image.items) }
-    ensures absent { F.told files.old (word_at (F.names files.old) place) ≡ Absent → result ≡ Err Stop.ReadFault }
+    ensures read { IfOk result (λ image. IsReadOf (F.known_file files.old (word_at (F.names files.old) place)) image.items) }
+    ensures absent { F.known_file files.old (word_at (F.names files.old) place) ≡ Absent → result ≡ Err Stop.ReadFault }
     ensures cause { IsErrOf result Stop.ReadFault → FailedOn place (files_call F.Files files.old files.new) }
     ensures own { IfErr result (λ stop. ¬ IsRefusal stop) }
-    ensures later { F.faults files.old ≤ F.faults files.new }
 {
     if files.open(place).is_err() {
         return Err(Stop::ReadFault);
@@ -92,11 +91,10 @@ pub(crate) fn load_image<F: Files>(
     place: usize,
 ) -> Result<Loaded, Stop>
     requires place { place < length (F.names files.old) }
-    ensures loaded { IfOk result (IsLoadedOf (F.told files.old (word_at (F.names files.old) place))) }
-    ensures refused { IfErr result (IsStopOf (F.told files.old (word_at (F.names files.old) place))) }
-    ensures absent { F.told files.old (word_at (F.names files.old) place) ≡ Absent → result ≡ Err Stop.ReadFault }
+    ensures loaded { IfOk result (IsLoadedOf (F.known_file files.old (word_at (F.names files.old) place))) }
+    ensures refused { IfErr result (IsStopOf (F.known_file files.old (word_at (F.names files.old) place))) }
+    ensures absent { F.known_file files.old (word_at (F.names files.old) place) ≡ Absent → result ≡ Err Stop.ReadFault }
     ensures cause { IsErrOf result Stop.ReadFault → FailedOn place (files_call F.Files files.old files.new) }
-    ensures later { F.faults files.old ≤ F.faults files.new }
 {
     let image = read_image(alloc, files, place)?;
     match load(alloc, &image) {

@@ -1,12 +1,10 @@
 // Running a machine to its end, and the report about it.
-ghost use Rattle.std.specs.Prelude.{◌≡◌, ◌≤◌, ◌⊎◌, OnOk, OnErr, true, None};
-ghost use Rattle.std.specs.Io.KnownBytes.{Appends};
-ghost use Rattle.cape_io.specs.Devices.{PutsFront, Rose};
+ghost use Rattle.std.specs.Prelude.{◌≡◌, ◌≤◌, ◌⊎◌, is_ok, true, None};
+ghost use Rattle.cape_io.specs.Devices.{Rose};
+ghost use Rattle.cape_io.specs.Views.{Writes, devices, views};
 ghost use Rattle.rvv_meaning.specs.declared.Mode.TheVariants.{Running};
-ghost use Rattle.machine.specs.Answers.{answer_of};
 ghost use Rattle.command_words.specs.Grammar.{most_steps};
-ghost use Rattle.report_texts.specs.Lines.{line_of};
-ghost use Rattle.cape_top.specs.Views.{devices, views};
+ghost use Rattle.cape_top.specs.Calls.{SinkRose};
 ghost use Rattle.cape_top.specs.Statuses.{IsOfRun, IsFault, KeepsMachine};
 ghost use Rattle.cape_top.specs.Endings.{end_text, kept_after, state_if, status_for as status_of_answer};
 ghost use Rattle.cape_top.specs.Runs.{MachineEnds, MachineReads};
@@ -15,7 +13,7 @@ use crate::ending::Status;
 use cape_io::{Failed, Sink, Source};
 use command_words::RunOptions;
 use machine::{DeviceFault, Machine, Step};
-use report_texts::{put_line, put_state, report_line};
+use report_texts::{report_line, write_line, write_state};
 
 // The status for an answer of the machine.
 fn status_for(answer: Step) -> Status
@@ -47,17 +45,14 @@ fn write_state_after<E: Sink>(
     with_state: bool,
     err: &mut E,
 ) -> Result<(), Failed>
-    ensures whole { OnOk result (Appends (E.held err.old) (E.held err.new) (state_if with_state answer machine.now.core)) }
-    ensures front { OnErr result (PutsFront (E.held err.old) (E.held err.new) (state_if with_state answer machine.now.core)) }
-    ensures cause { OnErr result (Rose (E.faults err.old) (E.faults err.new)) }
-    ensures later { E.faults err.old ≤ E.faults err.new }
+    ensures { Writes E.Sink (state_if with_state answer machine.now.core) (is_ok result) err.old err.new }
 {
     if !with_state {
         return Ok(());
     }
     match answer {
         Step::Unbuilt => Ok(()),
-        Step::Ran | Step::Exited(_) | Step::Trapped(_) => put_state(machine, err),
+        Step::Ran | Step::Exited(_) | Step::Trapped(_) => write_state(machine, err),
     }
 }
 
@@ -68,12 +63,9 @@ fn write_end<E: Sink>(
     with_state: bool,
     err: &mut E,
 ) -> Result<(), Failed>
-    ensures whole { OnOk result (Appends (E.held err.old) (E.held err.new) (end_text answer with_state machine.now.core)) }
-    ensures front { OnErr result (PutsFront (E.held err.old) (E.held err.new) (end_text answer with_state machine.now.core)) }
-    ensures cause { OnErr result (Rose (E.faults err.old) (E.faults err.new)) }
-    ensures later { E.faults err.old ≤ E.faults err.new }
+    ensures { Writes E.Sink (end_text answer with_state machine.now.core) (is_ok result) err.old err.new }
 {
-    put_line(&report_line(answer, machine.retired()), err)?;
+    write_line(&report_line(answer, machine.retired()), err)?;
     write_state_after(machine, answer, with_state, err)
 }
 
@@ -96,10 +88,7 @@ pub(crate) fn run_machine<S: Source, O: Sink, E: Sink>(
     ensures kept { KeepsMachine result ⊎ (kept.new ≡ None) }
     ensures read { result ≡ Status.ReadFault → Rose (S.faults input.old) (S.faults input.new) }
     ensures reads { result ≡ Status.ReadFault → MachineReads machine options (views S.Source O.Sink E.Sink input.old out.old err.old) }
-    ensures write { result ≡ Status.WriteFault → Rose (O.faults out.old) (O.faults out.new) ⊎ Rose (E.faults err.old) (E.faults err.new) }
-    ensures later_input { S.faults input.old ≤ S.faults input.new }
-    ensures later_out { O.faults out.old ≤ O.faults out.new }
-    ensures later_err { E.faults err.old ≤ E.faults err.new }
+    ensures write { result ≡ Status.WriteFault → SinkRose (devices S.Source O.Sink E.Sink input.old input.new out.old out.new err.old err.new) }
 {
     let mut machine = machine;
     match machine.run(options.steps, input, out, err, false) {

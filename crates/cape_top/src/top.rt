@@ -1,14 +1,13 @@
 // The top call.
-ghost use Rattle.std.specs.Prelude.{◌≢◌, ◌≡◌, ◌<◌, ◌≤◌, ◌⊎◌, [], None, false, length, map, string_bytes};
-ghost use Rattle.std.specs.Io.KnownBytes.{Appends};
-ghost use Rattle.cape_io.specs.Devices.{Absent, PutsFront, Rose, word_at};
+ghost use Rattle.std.specs.Prelude.{◌≢◌, ◌≡◌, ◌<◌, ◌⊎◌, None, true, false, length, map, string_bytes};
+ghost use Rattle.cape_io.specs.Devices.{Absent, Rose, word_at};
+ghost use Rattle.cape_io.specs.Views.{Writes, devices, views};
 ghost use Rattle.elf_load.specs.Layout.{span_of};
 ghost use Rattle.command_words.specs.Grammar.{AreInRange, IsInRange, IsRun};
 ghost use Rattle.command_words.specs.declared.words.Command.{Command};
 ghost use Rattle.report_texts.specs.Layouts.{layout_text};
 ghost use Rattle.report_texts.specs.Lines.{refused_line as line_for};
-ghost use Rattle.cape_top.specs.Views.{devices, views};
-ghost use Rattle.cape_top.specs.Calls.{call, SinkRose, WritesNothing};
+ghost use Rattle.cape_top.specs.Calls.{call, SinkRose};
 ghost use Rattle.cape_top.specs.Statuses.{IsOfRun, IsFault};
 ghost use Rattle.cape_top.specs.Runs.{LoadedEnds, LoadedReads};
 ghost use Rattle.cape_top.specs.Promises.{words_of, CallEnds, CommandEnds, HasCause, ReadCause};
@@ -20,7 +19,7 @@ use cape_io::{Files, Sink, Source};
 use command_words::{Command, RunOptions, command_of};
 use elf_load::{LoadFault, Loaded};
 use machine::Machine;
-use report_texts::{put_layout, refused_line};
+use report_texts::{refused_line, write_layout};
 use std::alloc::Global;
 
 // The place of the operand among the words.
@@ -29,10 +28,8 @@ const OPERAND: usize = 1;
 // Writes why an image is refused.
 fn refuse<E: Sink>(fault: LoadFault, err: &mut E) -> Status
     ensures only { (result ≡ Status.Refused fault) ⊎ (result ≡ Status.WriteFault) }
-    ensures said { result ≡ Status.Refused fault → Appends (E.held err.old) (E.held err.new) (line_for fault) }
-    ensures front { result ≡ Status.WriteFault → PutsFront (E.held err.old) (E.held err.new) (line_for fault) }
-    ensures write { result ≡ Status.WriteFault → Rose (E.faults err.old) (E.faults err.new) }
-    ensures later { E.faults err.old ≤ E.faults err.new }
+    ensures said { result ≡ Status.Refused fault → Writes E.Sink (line_for fault) true err.old err.new }
+    ensures fails { result ≡ Status.WriteFault → Writes E.Sink (line_for fault) false err.old err.new }
 {
     let line = refused_line(fault);
     match err.put(line.as_str().as_bytes()) {
@@ -57,10 +54,7 @@ fn run_loaded<S: Source, O: Sink, E: Sink>(
     ensures only { IsOfRun result ⊎ (IsFault result ⊎ (result ≡ Status.NoMemory)) }
     ensures read { result ≡ Status.ReadFault → Rose (S.faults input.old) (S.faults input.new) }
     ensures reads { result ≡ Status.ReadFault → LoadedReads loaded options (views S.Source O.Sink E.Sink input.old out.old err.old) }
-    ensures write { result ≡ Status.WriteFault → Rose (O.faults out.old) (O.faults out.new) ⊎ Rose (E.faults err.old) (E.faults err.new) }
-    ensures later_input { S.faults input.old ≤ S.faults input.new }
-    ensures later_out { O.faults out.old ≤ O.faults out.new }
-    ensures later_err { E.faults err.old ≤ E.faults err.new }
+    ensures write { result ≡ Status.WriteFault → SinkRose (devices S.Source O.Sink E.Sink input.old input.new out.old out.new err.old err.new) }
 {
     match Machine::new(alloc, loaded, options.vlen, options.policy) {
         Ok(machine) => run_machine(machine, options, input, out, err, kept),
@@ -71,12 +65,10 @@ fn run_loaded<S: Source, O: Sink, E: Sink>(
 // Writes what would be mapped of what was loaded.
 fn check_loaded<O: Sink>(loaded: &Loaded, out: &mut O) -> Status
     ensures only { (result ≡ Status.Done) ⊎ (result ≡ Status.WriteFault) }
-    ensures said { result ≡ Status.Done → Appends (O.held out.old) (O.held out.new) (layout_text loaded.now.entry_pc (map span_of loaded.now.regions)) }
-    ensures front { result ≡ Status.WriteFault → PutsFront (O.held out.old) (O.held out.new) (layout_text loaded.now.entry_pc (map span_of loaded.now.regions)) }
-    ensures write { result ≡ Status.WriteFault → Rose (O.faults out.old) (O.faults out.new) }
-    ensures later { O.faults out.old ≤ O.faults out.new }
+    ensures said { result ≡ Status.Done → Writes O.Sink (layout_text loaded.now.entry_pc (map span_of loaded.now.regions)) true out.old out.new }
+    ensures fails { result ≡ Status.WriteFault → Writes O.Sink (layout_text loaded.now.entry_pc (map span_of loaded.now.regions)) false out.old out.new }
 {
-    match put_layout(loaded.entry_pc, loaded.regions.as_slice(), out) {
+    match write_layout(loaded.entry_pc, loaded.regions.as_slice(), out) {
         Ok(()) => Status::Done,
         Err(_) => Status::WriteFault,
     }
@@ -100,9 +92,9 @@ fn do_command<F: Files, S: Source, O: Sink, E: Sink>(
     ensures of_run { IsOfRun result → IsRun command }
     ensures of_check { result ≡ Status.Done → command ≡ Command.Check }
     ensures no_usage { result ≢ Status.Usage }
-    ensures absent { F.told files.old (word_at (F.names files.old) place) ≡ Absent → result ≡ Status.ReadFault }
+    ensures absent { F.known_file files.old (word_at (F.names files.old) place) ≡ Absent → result ≡ Status.ReadFault }
     ensures read { ReadCause command place (call F.Files S.Source O.Sink E.Sink files.old files.new input.old input.new out.old out.new err.old err.new) result }
-    ensures write { result ≡ Status.WriteFault → Rose (O.faults out.old) (O.faults out.new) ⊎ Rose (E.faults err.old) (E.faults err.new) }
+    ensures write { result ≡ Status.WriteFault → SinkRose (devices S.Source O.Sink E.Sink input.old input.new out.old out.new err.old err.new) }
 {
     let loaded = match load_image(alloc, files, place) {
         Ok(loaded) => loaded,

@@ -14,7 +14,7 @@ use Rattle.command_words.specs.declared.words.Flag.TheVariants.{State}
 use Rattle.command_words.specs.declared.words.Given.{Given}
 use Rattle.command_words.specs.declared.words.Valued.{Valued}
 use Rattle.command_words.specs.declared.words.Valued.TheVariants.{Steps, Vlen, Agnostic}
-use Rattle.command_words.specs.Grammar.{on_some, digit, digits_after, number, in_range, number_in, most_steps, default_steps, default_vlen, steps_in, legal, vlen_in, policy_in, once, flag_named, valued_named, add_flag, add_value, options_after, none_given, run_with, check_with, named, IsInRange}
+use Rattle.command_words.specs.Grammar.{on_some, digit, digits_after, number, in_range, number_in, most_steps, default_steps, default_vlen, steps_in, legal, vlen_in, policy_in, sole_value, flag_named, valued_named, add_flag, add_value, options_after, none_given, run_with, check_with, command_named, IsInRange}
 
 none_in_range : (most : ℕ) (o : Option ℕ) (f : ℕ → Option ℕ) → ((d : ℕ) → in_range most (f d) ≡ None) → in_range most (on_some o f) ≡ None
 none_in_range most None f none = refl
@@ -103,7 +103,7 @@ pub none_left : (given : Given) → options_after given [] ≡ Some given
 unfolding options_after
 none_left given = refl
 
--- the first element of a list, and what is behind it
+-- the first element of a list, and what comes after it
 module _ {X Y : Type 0} (f : X → Y) where
   pub map_none : (xs : List X) → length xs < 1 → map f xs ≡ []
   map_none [] short = refl
@@ -129,9 +129,9 @@ module _ {A : Type 0} (P : A → Type 0) where
   so_or_none a true is = is refl
   so_or_none a false is = tt
 
-  once_so : (before value : Option A) → IfSome value P → IfSome (once before value) P
-  once_so None value is = is
-  once_so (Some a) value is = tt
+  sole_so : (before value : Option A) → IfSome value P → IfSome (sole_value before value) P
+  sole_so None value is = is
+  sole_so (Some a) value is = tt
 
   unwrapped_so : (o : Option A) (d : A) → IfSome o P → P d → P (unwrap_or o d)
   unwrapped_so None d is default = default
@@ -180,16 +180,16 @@ flag_so State given is = none_or_so IsGivenInRange _ given.state (record { steps
 
 value_so : (option : Valued) (value : List ℕ) (given : Given) → IsGivenInRange given → IfSome (add_value option value given) IsGivenInRange
 value_so Steps value given is =
-    on_some_so IsGivenInRange (λ n. n ≤ most_steps) (once given.steps (steps_in value)) (λ n. Some (record given { steps = Some n }))
-    (once_so (λ n. n ≤ most_steps) given.steps (steps_in value) (steps_so value))
+    on_some_so IsGivenInRange (λ n. n ≤ most_steps) (sole_value given.steps (steps_in value)) (λ n. Some (record given { steps = Some n }))
+    (sole_so (λ n. n ≤ most_steps) given.steps (steps_in value) (steps_so value))
     (λ n few. record { steps = few; vlen = is.vlen })
 value_so Vlen value given is =
-    on_some_so IsGivenInRange (λ n. IsTrue (is_legal_vlen n)) (once given.vlen (vlen_in value)) (λ n. Some (record given { vlen = Some n }))
-    (once_so (λ n. IsTrue (is_legal_vlen n)) given.vlen (vlen_in value) (vlen_so value))
+    on_some_so IsGivenInRange (λ n. IsTrue (is_legal_vlen n)) (sole_value given.vlen (vlen_in value)) (λ n. Some (record given { vlen = Some n }))
+    (sole_so (λ n. IsTrue (is_legal_vlen n)) given.vlen (vlen_in value) (vlen_so value))
     (λ n legal. record { steps = is.steps; vlen = legal })
 value_so Agnostic value given is =
-    on_some_so IsGivenInRange (λ p. ⊤) (once given.policy (policy_in value)) (λ p. Some (record given { policy = Some p }))
-    (some_so (once given.policy (policy_in value)))
+    on_some_so IsGivenInRange (λ p. ⊤) (sole_value given.policy (policy_in value)) (λ p. Some (record given { policy = Some p }))
+    (some_so (sole_value given.policy (policy_in value)))
     (λ p any. record { steps = is.steps; vlen = is.vlen })
 
 options_so : (words : List (List ℕ)) (given : Given) → IsGivenInRange given → IfSome (options_after given words) IsGivenInRange
@@ -214,12 +214,12 @@ check_so : (words : List (List ℕ)) → IfSome (check_with words) IsInRange
 check_so [] = tt
 check_so (word ∷ rest) = tt
 
-named_so : (word : List ℕ) (rest : List (List ℕ)) → IfSome (named word rest) IsInRange
+named_so : (word : List ℕ) (rest : List (List ℕ)) → IfSome (command_named word rest) IsInRange
 named_so word rest =
     either_so IsInRange (bytes_eq word (codes "run")) _ _
     (on_some_so IsInRange IsGivenInRange (options_after none_given rest) (λ given. Some (run_with given)) (options_so rest none_given (record { steps = tt; vlen = tt })) (λ given so. run_so given so))
     (either_so IsInRange (bytes_eq word (codes "check")) (check_with rest) None (check_so rest) tt)
 
 -- a command that words name is in its range
-pub command_so : (command : Option Command) (word : List ℕ) (rest : List (List ℕ)) → command ≡ named word rest → IfSome command IsInRange
+pub command_so : (command : Option Command) (word : List ℕ) (rest : List (List ℕ)) → command ≡ command_named word rest → IfSome command IsInRange
 command_so command word rest is = rw is (named_so word rest)

@@ -28,7 +28,7 @@ on_some (Some a) f = f a
 abbrev pub digit : ℕ → Option ℕ
 digit c = if nat_le 48 c && nat_le c 57 then Some (c - 48) else None
 
--- the number of these digits behind those of another number
+-- the number of these digits after those of another number
 unfoldable pub digits_after : ℕ → List ℕ → Option ℕ
 digits_after n [] = Some n
 digits_after n (c ∷ rest) = on_some (digit c) (λ d. digits_after (10 * n + d) rest)
@@ -90,19 +90,19 @@ valued_named word =
     else if bytes_eq word (codes "--agnostic") then Some Agnostic
     else None
 
--- the value of an option, where there was none before
-abbrev pub once : {A : Type 0} → Option A → Option A → Option A
-once None value = value
-once (Some a) value = None
+-- the value of an option, if it is not given twice
+abbrev pub sole_value : {A : Type 0} → Option A → Option A → Option A
+sole_value None value = value
+sole_value (Some a) value = None
 
 -- what is given with one more option, which was not given before
 abbrev pub add_flag : Flag → Given → Option Given
 add_flag State given = if given.state then None else Some (record given { state = true })
 
 abbrev pub add_value : Valued → List ℕ → Given → Option Given
-add_value Steps value given = on_some (once given.steps (steps_in value)) (λ n. Some (record given { steps = Some n }))
-add_value Vlen value given = on_some (once given.vlen (vlen_in value)) (λ n. Some (record given { vlen = Some n }))
-add_value Agnostic value given = on_some (once given.policy (policy_in value)) (λ p. Some (record given { policy = Some p }))
+add_value Steps value given = on_some (sole_value given.steps (steps_in value)) (λ n. Some (record given { steps = Some n }))
+add_value Vlen value given = on_some (sole_value given.vlen (vlen_in value)) (λ n. Some (record given { vlen = Some n }))
+add_value Agnostic value given = on_some (sole_value given.policy (policy_in value)) (λ p. Some (record given { policy = Some p }))
 
 -- the options of the words, with those that were given before them
 unfoldable pub options_after : Given → List (List ℕ) → Option Given
@@ -133,15 +133,15 @@ abbrev pub check_with : List (List ℕ) → Option Command
 check_with [] = Some Check
 check_with (word ∷ rest) = None
 
--- the command of its first word, with the words behind its operand
-abbrev pub named : List ℕ → List (List ℕ) → Option Command
-named word rest =
+-- the command of its first word, with the words after its operand
+abbrev pub command_named : List ℕ → List (List ℕ) → Option Command
+command_named word rest =
     if bytes_eq word (codes "run") then on_some (options_after none_given rest) (λ given. Some (run_with given))
     else if bytes_eq word (codes "check") then check_with rest
     else None
 
 abbrev pub command_of : List (List ℕ) → Option Command
-command_of (command ∷ image ∷ rest) = if is_name image then named command rest else None
+command_of (command ∷ image ∷ rest) = if is_name image then command_named command rest else None
 command_of words = None
 
 -- the steps are in their range, and a vector register may have the length

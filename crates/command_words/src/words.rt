@@ -1,7 +1,7 @@
 // The words of a command line, read by hand.
 ghost use Rattle.std.specs.Prelude.{◌≡◌, ◌≤◌, ◌<◌, map, string_bytes, IfSome};
 ghost use Rattle.vtype_cfg.specs.Settings.{is_legal_vlen as is_legal};
-ghost use Rattle.command_words.specs.Grammar.{is_name, digit, digits_after, in_range, number_in, steps_in, vlen_in, policy_in, once as only_once, flag_named as named_flag, valued_named as named_valued, add_flag, add_value, options_after as options_behind, run_with as run_of, named, command_of as command, IsInRange};
+ghost use Rattle.command_words.specs.Grammar.{is_name, digit, digits_after, in_range, number_in, steps_in, vlen_in, policy_in, sole_value as sole_of, flag_named as named_flag, valued_named as named_valued, add_flag, add_value, options_after as options_from, run_with as run_of, command_named as named_command, command_of as command, IsInRange};
 
 use vtype_cfg::Policy;
 
@@ -177,9 +177,9 @@ fn valued_named(word: &str) -> Option<Valued>
     }
 }
 
-// The value of an option, where there was none before.
-fn once<T: Copy>(before: Option<T>, value: Option<T>) -> Option<T>
-    ensures { result ≡ only_once before value }
+// The value of an option, if it is not given twice.
+fn sole_value<T: Copy>(before: Option<T>, value: Option<T>) -> Option<T>
+    ensures { result ≡ sole_of before value }
 {
     match before {
         None => value,
@@ -207,15 +207,15 @@ impl Given {
     {
         match option {
             Valued::Steps => Some(Given {
-                steps: Some(once(self.steps, steps_of(value))?),
+                steps: Some(sole_value(self.steps, steps_of(value))?),
                 ..self
             }),
             Valued::Vlen => Some(Given {
-                vlen: Some(once(self.vlen, vlen_of(value))?),
+                vlen: Some(sole_value(self.vlen, vlen_of(value))?),
                 ..self
             }),
             Valued::Agnostic => Some(Given {
-                policy: Some(once(self.policy, policy_of(value))?),
+                policy: Some(sole_value(self.policy, policy_of(value))?),
                 ..self
             }),
         }
@@ -224,7 +224,7 @@ impl Given {
 
 // The options of the words, with those that were given before them.
 fn options_after(words: &[String], given: Given) -> Option<Given>
-    ensures { result ≡ options_behind given (map string_bytes words.now) }
+    ensures { result ≡ options_from given (map string_bytes words.now) }
 {
     let [word, rest @ ..] = words else {
         return Some(given);
@@ -251,9 +251,9 @@ fn run_with(given: Given) -> Command
     })
 }
 
-// The command that a word names, with the words behind its operand.
+// The command that a word names, with the words after its operand.
 fn command_named(word: &str, rest: &[String]) -> Option<Command>
-    ensures { result ≡ named word.now (map string_bytes rest.now) }
+    ensures { result ≡ named_command word.now (map string_bytes rest.now) }
 {
     if word == "run" {
         return Some(run_with(options_after(rest, Given::default())?));

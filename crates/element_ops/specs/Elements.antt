@@ -22,7 +22,7 @@ pub record AreRegisters (size : ℕ) (v : List (List ℕ)) : Type 0 where
   pub sizes : (q : ℕ) → q < 32 → length (slice_index_or v q []) ≡ size
   pub bytes : (q j : ℕ) → byte_at v q j < 2 ^ 8
 
--- byte t of the registers from r on, of `size` bytes each, one behind the other
+-- byte t of the registers from r on, of `size` bytes each, one after the other
 abbrev pub group_byte : (size : ℕ) → List (List ℕ) → (r t : ℕ) → ℕ
 group_byte size v r t = slice_index_or (slice_index_or v (r + t / size) []) (t % size) 0
 
@@ -66,7 +66,7 @@ Registers = ℕ → ℕ → Bool
 unfoldable pub bits_of : List (List ℕ) → Registers
 bits_of v r i = mask_bit_of v r i
 
--- bit i of the registers from r on, of `vlen` bits each, one behind the other
+-- bit i of the registers from r on, of `vlen` bits each, one after the other
 abbrev pub group_bit : (vlen : ℕ) → Registers → (r i : ℕ) → Bool
 group_bit vlen v r i = v (r + i / vlen) (i % vlen)
 

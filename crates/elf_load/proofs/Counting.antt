@@ -64,16 +64,16 @@ count_from-split test a (suc m) n b k at whole =
 pub count_from-one : (test : ℕ → Bool) (a : ℕ) → count_from test a 1 ≡ one_if (test a)
 count_from-one test a = omega (arith, count_from-suc test a 0, count_from-zero test (a + 1))
 
--- A test that no number before `first` or behind `last` passes, and each number strictly between them: how many pass
+-- A test that no number before `first` or after `last` passes, and each number strictly between them: how many pass
 -- below n is what lies between, and one for each of the two that passes.
 pub count_from-ends : (test : ℕ → Bool) (first last n : ℕ) → first < last → last < n
     → ((x : ℕ) → x < first → test x ≡ false) → ((x : ℕ) → last < x → test x ≡ false) → ((x : ℕ) → first < x → x < last → test x ≡ true)
     → count_from test 0 n ≡ (last - first - 1) + (one_if (test first) + one_if (test last))
-count_from-ends test first last n rising below before behind between =
+count_from-ends test first last n rising below before after between =
     let middle = last - first - 1 in
     let front : count_from test 0 first ≡ 0 = count_from-none test 0 first (λ x low high. before x (omega arith)) in
     let inner : count_from test (first + 1) middle ≡ middle = count_from-all test (first + 1) middle (λ x low high. between x (omega arith) (omega arith)) in
-    let back : count_from test (last + 1) (n - last - 1) ≡ 0 = count_from-none test (last + 1) (n - last - 1) (λ x low high. behind x (omega arith)) in
+    let back : count_from test (last + 1) (n - last - 1) ≡ 0 = count_from-none test (last + 1) (n - last - 1) (λ x low high. after x (omega arith)) in
     omega (
       arith,
       count_from-split test 0 first (n - first) first n (omega arith) (omega arith),
@@ -88,9 +88,9 @@ count_from-ends test first last n rising below before behind between =
 pub count_from-single : (test : ℕ → Bool) (page n : ℕ) → page < n
     → ((x : ℕ) → x < page → test x ≡ false) → ((x : ℕ) → page < x → test x ≡ false)
     → count_from test 0 n ≡ one_if (test page)
-count_from-single test page n below before behind =
+count_from-single test page n below before after =
     let front : count_from test 0 page ≡ 0 = count_from-none test 0 page (λ x low high. before x (omega arith)) in
-    let back : count_from test (page + 1) (n - page - 1) ≡ 0 = count_from-none test (page + 1) (n - page - 1) (λ x low high. behind x (omega arith)) in
+    let back : count_from test (page + 1) (n - page - 1) ≡ 0 = count_from-none test (page + 1) (n - page - 1) (λ x low high. after x (omega arith)) in
     omega (
       arith,
       count_from-split test 0 page (n - page) page n (omega arith) (omega arith),

@@ -6,7 +6,9 @@ use Rattle.elf_load.specs.declared.faults.LoadFault.{LoadFault}
 use Rattle.elf_load.specs.declared.faults.LoadFault.TheVariants.{NoMemory}
 use Rattle.elf_load.specs.Fields.{entry}
 use Rattle.elf_load.specs.Headers.{headers, segments}
-use Rattle.elf_load.specs.Layout.{page_size, top, spans, heap_start, heap_limit, heap_end, all_apart, none_wraps, regions, bytes_fit, span_of}
+use Rattle.guest_mem.specs.Pages.{page_of, page_size}
+use Rattle.guest_mem.specs.Spans.{span_of}
+use Rattle.elf_load.specs.Layout.{top, spans, heap_start, heap_limit, heap_end, all_apart, none_wraps, regions, bytes_fit}
 use Rattle.elf_load.specs.Faults.{holds, first_of, faults, header_faults, segment_faults, layout_faults, fault, any_above_memsz, any_past_file, any_wraps, image_header_size, is_executable}
 use Rattle.elf_load.proofs.LayoutLemmas.{AreSound, map-span_of-regions, bytes_fit-regions, start_behind-le, start_behind-mod, heap_limit-ge, heap_limit-le, heap_limit-mod, all_apart-mapped_spans, none_wraps-mapped_spans}
 
@@ -139,7 +141,7 @@ any_past_file-no_fault image e = (HasSoundSegments-from_none image (HasNoFault-f
 pub entry-no_fault : (image : List ℕ) → fault image ≡ None → entry image % 4 ≡ 0
 entry-no_fault image e =
     let after_pages = (NoneHolds-from_none layout_faults image (HasNoFault-from_none image e).layout).1 in
-    let both = or_parts (not (entry image % 4 == 0)) (not (is_executable image (entry image / page_size))) after_pages.1.0 in
+    let both = or_parts (not (entry image % 4 == 0)) (not (is_executable image (page_of (entry image)))) after_pages.1.0 in
     eqb-true (entry image % 4) 0 (not-false (entry image % 4 == 0) both.0)
 
 pub all_apart-no_fault : (image : List ℕ) → fault image ≡ None → all_apart (map span_of (regions image)) ≡ true

@@ -1,4 +1,4 @@
--- What is laid out of segments that have no fault: ranges that share no byte, a heap of whole pages behind the segments.
+-- What is laid out of segments that have no fault: ranges that share no byte, a heap of whole pages after the segments.
 use Rattle.std.proofs.Common.{◌≡◌, ℕ, length, drop, get_or, ◌+◌, ◌-◌, ◌%◌, ◌<◌, ◌≤◌, max, ◌⊎◌, true, false, ◌&&◌, List, [], ◌∷◌, ◌++◌, refl, ap, ◌∙◌, inl, inr, arith, add-one}
 use Rattle.std.specs.Prelude.{map, filter, nat_lt, nat_le}
 use Rattle.std.specs.List.{list_any, list_all}
@@ -8,9 +8,11 @@ use Rattle.std.proofs.Math.Seq.{drop-cons}
 use Rattle.std.proofs.lemmas.Simd.{map-map}
 use Rattle.std.proofs.lemmas.List.Folds.{list_all-append, list_all-map}
 use Rattle.elf_load.specs.declared.headers.Header.{Header}
-use Rattle.elf_load.specs.declared.spans.Span.{Span}
+use Rattle.guest_mem.specs.declared.spans.Span.{Span}
 use Rattle.elf_load.specs.Headers.{segments, headers, is_segment, is_load, end_of}
-use Rattle.elf_load.specs.Layout.{page_size, stack_start, stack_end, top, heap_size, highest_end, rounded_up, start_behind, heap_start, heap_bound, heap_limit, segment_span, stack_span, heap_at, heap_span, mapped_spans, spans, apart, all_apart, none_wraps, ends_inside, bytes_fit, region_fits, region_of, segment_region, regions, span_of}
+use Rattle.guest_mem.specs.Pages.{page_size}
+use Rattle.guest_mem.specs.Spans.{span_of}
+use Rattle.elf_load.specs.Layout.{stack_start, stack_end, top, heap_size, highest_end, rounded_up, start_behind, heap_start, heap_bound, heap_limit, segment_span, stack_span, heap_at, heap_span, mapped_spans, spans, apart, all_apart, none_wraps, ends_inside, bytes_fit, region_fits, region_of, segment_region, regions}
 use Rattle.elf_load.specs.Faults.{any_wraps, any_overlap, any_over_stack, any_above_memsz, overlaps, is_over_stack}
 
 -- segments that end below the top, share no byte, and have none of the stack
@@ -49,7 +51,7 @@ highest_end-beside (h ∷ hs) e =
       ]
     ]
 
--- The heap, for the address behind the segments.
+-- The heap, for the address after the segments.
 
 pub rounded_up-ge : (n : ℕ) → n ≤ rounded_up n
 rounded_up-ge n = omega arith
@@ -64,7 +66,7 @@ pub rounded_up-mod : (n : ℕ) → rounded_up n % page_size ≡ 0
 rounded_up-mod n = omega arith
 
 pub record IsHeapBound (start : ℕ) : Type 0 where
-  pub behind : start ≤ heap_bound start
+  pub after : start ≤ heap_bound start
   pub below : heap_bound start ≤ top
   pub aligned : heap_bound start % page_size ≡ 0
   pub beside : start ≤ stack_start → heap_bound start ≡ stack_start
@@ -75,15 +77,15 @@ heap_bound-is start low =
       | inl under ↦
           let is : heap_bound start ≡ stack_start = cond-true (nat_le start stack_start) stack_start top under in
           let from : start ≤ stack_start = leb-true start stack_start under in
-          record { behind = omega arith; below = omega arith; aligned = rw is refl; beside = λ _. is }
+          record { after = omega arith; below = omega arith; aligned = rw is refl; beside = λ _. is }
       | inr over ↦
           let is : heap_bound start ≡ top = cond-false (nat_le start stack_start) stack_start top over in
           let from : stack_start < start = leb-false start stack_start over in
-          record { behind = omega arith; below = omega arith; aligned = rw is refl; beside = λ low. absurd (omega arith) }
+          record { after = omega arith; below = omega arith; aligned = rw is refl; beside = λ low. absurd (omega arith) }
     ]
 
 pub heap_limit-ge : (start : ℕ) → start ≤ top → start ≤ heap_limit start
-heap_limit-ge start low = let bound = heap_bound-is start low in let behind : start ≤ heap_bound start = bound.behind in omega arith
+heap_limit-ge start low = let bound = heap_bound-is start low in let after : start ≤ heap_bound start = bound.after in omega arith
 
 pub heap_limit-le : (start : ℕ) → start ≤ top → heap_limit start ≤ top
 heap_limit-le start low = let bound = heap_bound-is start low in let below : heap_bound start ≤ top = bound.below in omega arith
@@ -104,22 +106,22 @@ heap_at-beside start low beside =
       | inl under ↦
           let bound = heap_bound-is start low in
           let is : heap_bound start ≡ stack_start = bound.beside under in
-          let ends : start + (heap_limit start - start) ≤ stack_start = omega (arith, bound.behind) in
+          let ends : start + (heap_limit start - start) ≤ stack_start = omega (arith, bound.after) in
           or_left _ _ (or_left _ _ (or_right _ _ (le-leb _ _ ends)))
       | inr over ↦ or_left _ _ (or_left _ _ (or_left _ _ (le-leb _ _ over)))
     ]
 
 -- Ranges that share no byte.
 
--- the heap's start is behind each segment, and off the stack
+-- the heap's start is after each segment, and off the stack
 pub record IsBehind (hs : List Header) (heap : Span) : Type 0 where
-  pub behind : highest_end hs ≤ heap.start
+  pub after : highest_end hs ≤ heap.start
   pub off_stack : apart stack_span heap ≡ true
 
 segment-apart : (a b : Header) → overlaps a b ≡ false → apart (segment_span a) (segment_span b) ≡ true
 segment-apart a b e =
     elim (and_cases (nat_lt a.vaddr (end_of b)) (nat_lt b.vaddr (end_of a)) e) as (λ _. apart (segment_span a) (segment_span b) ≡ true) [
-      | inl behind ↦ or_left _ _ (or_left _ _ (or_right _ _ (le-leb _ _ (ltb-false a.vaddr (end_of b) behind))))
+      | inl after ↦ or_left _ _ (or_left _ _ (or_right _ _ (le-leb _ _ (ltb-false a.vaddr (end_of b) after))))
       | inr before ↦ or_left _ _ (or_left _ _ (or_left _ _ (le-leb _ _ (ltb-false b.vaddr (end_of a) before))))
     ]
 
@@ -139,18 +141,18 @@ segment-off_stack h e =
 pub all_apart-mapped : (hs : List Header) (heap : Span) → any_overlap hs ≡ false → any_over_stack hs ≡ false → IsBehind hs heap
     → all_apart (map segment_span hs ++ stack_span ∷ heap ∷ []) ≡ true
 unfolding all_apart highest_end
-all_apart-mapped [] heap disjoint beside behind = and_from _ _ (and_from _ _ behind.off_stack refl) refl
-all_apart-mapped (h ∷ hs) heap disjoint beside behind =
+all_apart-mapped [] heap disjoint beside after = and_from _ _ (and_from _ _ after.off_stack refl) refl
+all_apart-mapped (h ∷ hs) heap disjoint beside after =
     let pairs = or_parts (list_any (overlaps h) hs) (any_overlap hs) disjoint in
     let stacks = or_parts (is_over_stack h) (any_over_stack hs) beside in
-    let from : max (end_of h) (highest_end hs) ≤ heap.start = behind.behind in
+    let from : max (end_of h) (highest_end hs) ≤ heap.start = after.after in
     let ends_before : end_of h ≤ heap.start = omega arith in
     let last : apart (segment_span h) heap ≡ true = or_left _ _ (or_left _ _ (or_left _ _ (le-leb _ _ ends_before))) in
     let others : list_all (apart (segment_span h)) (map segment_span hs) ≡ true = list_all-map (apart (segment_span h)) segment_span hs ∙ segments-apart h hs pairs.0 in
     let ends : list_all (apart (segment_span h)) (stack_span ∷ heap ∷ []) ≡ true = and_from _ _ (segment-off_stack h stacks.0) (and_from _ _ last refl) in
     let here : list_all (apart (segment_span h)) (map segment_span hs ++ stack_span ∷ heap ∷ []) ≡ true =
     list_all-append (apart (segment_span h)) (map segment_span hs) (stack_span ∷ heap ∷ []) ∙ and_from _ _ others ends in
-    and_from _ _ here (all_apart-mapped hs heap pairs.1 stacks.1 (record { behind = omega arith; off_stack = behind.off_stack }))
+    and_from _ _ here (all_apart-mapped hs heap pairs.1 stacks.1 (record { after = omega arith; off_stack = after.off_stack }))
 
 pub start_behind-le : (hs : List Header) → AreSound hs → start_behind hs ≤ top
 unfolding start_behind
@@ -163,7 +165,7 @@ start_behind-mod hs = rounded_up-mod (highest_end hs)
 pub IsBehind-heap_at : (hs : List Header) → AreSound hs → IsBehind hs (heap_at (start_behind hs))
 unfolding start_behind
 IsBehind-heap_at hs sound = record {
-  behind = rounded_up-ge (highest_end hs);
+  after = rounded_up-ge (highest_end hs);
   off_stack = heap_at-beside (rounded_up (highest_end hs)) (rounded_up-le (highest_end hs) (highest_end-le hs sound.below))
       (elim (highest_end-beside hs sound.beside) as (λ _. (rounded_up (highest_end hs) ≤ stack_start) ⊎ (stack_end ≤ rounded_up (highest_end hs))) [
         | inl under ↦ inl (rounded_up-stack (highest_end hs) under)

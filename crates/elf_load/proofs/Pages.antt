@@ -8,24 +8,11 @@ use Rattle.std.proofs.lemmas.Nat.Bits.{same_from_bits, bit_at_or}
 use Rattle.std.proofs.lemmas.List.{take_more, drop_all}
 use Rattle.std.proofs.Math.Seq.{drop-cons}
 use Rattle.std.proofs.Math.Bool.{or-false}
-use Rattle.elf_load.specs.declared.spans.Span.{Span}
-use Rattle.elf_load.specs.Layout.{page_numbers, first_page, last_page, meets, is_mapped, apart, all_apart, page_perms, page_count, pages_added, count_below}
+use Rattle.guest_mem.specs.declared.spans.Span.{Span}
+use Rattle.guest_mem.specs.Spans.{page_numbers, first_page, last_page, meets, is_mapped}
+use Rattle.guest_mem.proofs.Meeting.{IsMet, IsMet-from_meets, meets-from_IsMet, is_mapped-push}
+use Rattle.elf_load.specs.Layout.{apart, all_apart, page_count, pages_added, count_below}
 use Rattle.elf_load.proofs.Counting.{one_if, count_from, count_below-is, count_from-none, count_from-sum, count_from-ends, count_from-single, count_from-le}
-
--- what it is to meet a page
-pub record IsMet (page : ℕ) (s : Span) : Type 0 where
-  pub has_bytes : 0 < s.len
-  pub from : first_page s ≤ page
-  pub to : page ≤ last_page s
-
-pub IsMet-from_meets : (page : ℕ) (s : Span) → meets page s ≡ true → IsMet page s
-IsMet-from_meets page s e =
-    let outer = and_parts _ _ e in
-    let inner = and_parts _ _ outer.0 in
-    record { has_bytes = ltb-true _ _ inner.0; from = leb-true _ _ inner.1; to = leb-true _ _ outer.1 }
-
-pub meets-from_IsMet : (page : ℕ) (s : Span) → IsMet page s → meets page s ≡ true
-meets-from_IsMet page s h = and_from _ _ (and_from _ _ (lt-ltb _ _ h.has_bytes) (le-leb _ _ h.from)) (le-leb _ _ h.to)
 
 -- two ranges that share no byte are not both round one byte
 pub apart-ends : (a b : Span) → apart a b ≡ true → 0 < a.len → 0 < b.len → a.start < b.start + b.len → b.start < a.start + a.len → ⊥
@@ -61,8 +48,8 @@ is_added-outside ss s page e = and_left _ _ e
 is_added-before : (ss : List Span) (s : Span) (page : ℕ) → page < first_page s → is_added ss s page ≡ false
 is_added-before ss s page low = is_added-outside ss s page (false_from_ne_true (meets page s) (λ met. let m = IsMet-from_meets page s met in let from : first_page s ≤ page = m.from in omega arith))
 
-is_added-behind : (ss : List Span) (s : Span) (page : ℕ) → last_page s < page → is_added ss s page ≡ false
-is_added-behind ss s page high = is_added-outside ss s page (false_from_ne_true (meets page s) (λ met. let m = IsMet-from_meets page s met in let to : page ≤ last_page s = m.to in omega arith))
+is_added-after : (ss : List Span) (s : Span) (page : ℕ) → last_page s < page → is_added ss s page ≡ false
+is_added-after ss s page high = is_added-outside ss s page (false_from_ne_true (meets page s) (λ met. let m = IsMet-from_meets page s met in let to : page ≤ last_page s = m.to in omega arith))
 
 is_added-met : (ss : List Span) (s : Span) (page : ℕ) → IsMet page s → is_added ss s page ≡ not (is_mapped ss page)
 is_added-met ss s page m = rw (meets-from_IsMet page s m) refl
@@ -76,7 +63,7 @@ pub pages_added-one : (ss : List Span) (s : Span) → 0 < s.len → s.start + s.
 unfolding pages_added
 pages_added-one ss s some fits same =
     count_below-is page_numbers (is_added ss s)
-    ∙ count_from-single (is_added ss s) (first_page s) page_numbers (omega arith) (λ page low. is_added-before ss s page low) (λ page high. is_added-behind ss s page (omega arith))
+    ∙ count_from-single (is_added ss s) (first_page s) page_numbers (omega arith) (λ page low. is_added-before ss s page low) (λ page high. is_added-after ss s page (omega arith))
     ∙ ap one_if (is_added-met ss s (first_page s) (record { has_bytes = some; from = omega arith; to = omega arith }))
 
 pub pages_added-more : (ss : List Span) (s : Span) → 0 < s.len → s.start + s.len ≤ 2 ^ 32 → first_page s < last_page s → list_all (λ a. apart a s) ss ≡ true
@@ -87,7 +74,7 @@ pages_added-more ss s some fits rising free =
     let last_is = is_added-met ss s (last_page s) (record { has_bytes = some; from = omega arith; to = omega arith }) in
     count_below-is page_numbers (is_added ss s)
     ∙ count_from-ends (is_added ss s) (first_page s) (last_page s) page_numbers rising (omega arith)
-    (λ page low. is_added-before ss s page low) (λ page high. is_added-behind ss s page high)
+    (λ page low. is_added-before ss s page low) (λ page high. is_added-after ss s page high)
     (λ page low high. is_added-met ss s page (record { has_bytes = some; from = omega arith; to = omega arith }) ∙ ap not (is_mapped-inside page ss s free low high))
     ∙ ap (λ ends. (last_page s - first_page s - 1) + ends) (ap (λ b. one_if b + one_if (is_added ss s (last_page s))) first_is ∙ ap (λ b. one_if (not (is_mapped ss (first_page s))) + one_if b) last_is)
 
@@ -96,10 +83,6 @@ or-split true true = refl
 or-split true false = refl
 or-split false true = refl
 or-split false false = refl
-
-pub is_mapped-push : (ss : List Span) (s : Span) (page : ℕ) → is_mapped (ss ++ s ∷ []) page ≡ (is_mapped ss page || meets page s)
-is_mapped-push ss s page =
-    list_any-append (meets page) ss (s ∷ []) ∙ ap (λ b. is_mapped ss page || b) (or-false (meets page s))
 
 -- one more range adds exactly the pages that it meets and no earlier one does
 pub page_count-push : (ss : List Span) (s : Span) → page_count (ss ++ s ∷ []) ≡ page_count ss + pages_added ss s
@@ -118,11 +101,6 @@ pub page_count-le : (ss : List Span) → page_count ss ≤ page_numbers
 unfolding page_count
 page_count-le ss = omega (arith, count_below-is page_numbers (is_mapped ss), count_from-le (is_mapped ss) 0 page_numbers)
 
--- the order in which permissions are joined is free
-pub bit_or-assoc : (a b c : ℕ) → bit_or (bit_or a b) c ≡ bit_or a (bit_or b c)
-bit_or-assoc a b c =
-    same_from_bits _ _ (λ i. omega (arith, bit_at_or (bit_or a b) c i, bit_at_or a b i, bit_at_or a (bit_or b c) i, bit_at_or b c i))
-
 -- a test that each element passes
 pub list_all-at : {X : Type 0} (p : X → Bool) (xs : List X) (k : ℕ) (d : X) → list_all p xs ≡ true → k < length xs → p (get_or xs k d) ≡ true
 list_all-at p xs k d all within = true_from_ne_false (p (get_or xs k d)) (λ fails. both_ways (list_all p xs) (list_all_at p xs k d within fails) all)
@@ -140,24 +118,7 @@ all_apart-front (s ∷ ss) (suc k) d e within =
 pub page_count-more : (ss : List Span) (k : ℕ) (d : Span) → k < length ss → page_count (take (k + 1) ss) ≡ page_count (take k ss) + pages_added (take k ss) (get_or ss k d)
 page_count-more ss k d within = ap page_count (take_more ss k d within) ∙ page_count-push (take k ss) (get_or ss k d)
 
--- the permissions of a page, range by range
-pub page_perms-done : (ss : List Span) (k page : ℕ) → length ss ≤ k → page_perms (drop k ss) page ≡ 0
-unfolding page_perms
-page_perms-done ss k page done = rw (drop_all k ss done) refl
-
-pub page_perms-met : (ss : List Span) (k : ℕ) (d : Span) (page : ℕ) → k < length ss → meets page (get_or ss k d) ≡ true
-    → page_perms (drop k ss) page ≡ bit_or (get_or ss k d).perms.0 (page_perms (drop (k + 1) ss) page)
-unfolding page_perms
-page_perms-met ss k d page within met = rw (drop-cons ss k d, add-one k) (rw met refl)
-
-pub page_perms-missed : (ss : List Span) (k : ℕ) (d : Span) (page : ℕ) → k < length ss → meets page (get_or ss k d) ≡ false
-    → page_perms (drop k ss) page ≡ page_perms (drop (k + 1) ss) page
-unfolding page_perms
-page_perms-missed ss k d page within missed = rw (drop-cons ss k d, add-one k) (rw missed refl)
-
 -- the steps of the loops over the ranges
 pub ruleset new_page_cases = (pages_added-empty, pages_added-one, pages_added-more)
 
 pub ruleset page_count_steps = (all_apart-front, list_all-at, page_count-more, page_count-nil, page_count-le)
-
-pub ruleset page_perms_steps = (page_perms-done, page_perms-met, page_perms-missed, bit_or-assoc, or_zero_l, or_zero_r)

@@ -3,7 +3,9 @@ use Rattle.std.specs.Prelude.{ℕ, ◌+◌, ◌*◌, ◌/◌, ◌%◌, ◌==◌,
 use Rattle.std.specs.List.{list_any}
 use Rattle.elf_load.specs.Fields.{file_type, machine_type, version, entry, table_place, header_flags, entry_size, header_count}
 use Rattle.elf_load.specs.Headers.{headers, segments, header_size, is_load, end_of}
-use Rattle.elf_load.specs.Layout.{page_size, stack_start, stack_end, top, spans, page_count, page_perms}
+use Rattle.guest_mem.specs.Pages.{page_of}
+use Rattle.guest_mem.specs.Spans.{page_perms}
+use Rattle.elf_load.specs.Layout.{stack_start, stack_end, top, spans, page_count}
 use Rattle.elf_load.specs.declared.headers.Header.{Header}
 use Rattle.elf_load.specs.declared.faults.LoadFault.{LoadFault}
 use Rattle.elf_load.specs.declared.faults.LoadFault.TheVariants.{TooBig, TooShort, BadMagic, NotElf32, NotLittleEndian, BadVersion, NotExecutable, NotRiscv, Compressed, BadPhentsize, TooManyHeaders, HeadersPastEnd, Dynamic, FileszAboveMemsz, SegmentPastFile, SegmentWraps, Overlap, OverStack, TooLarge, NoSegments, BadEntry, NoMemory}
@@ -64,7 +66,7 @@ abbrev pub is_too_large : List ℕ → Bool
 is_too_large image = not (is_none (segments image)) && nat_lt page_limit (page_count (spans image))
 
 abbrev pub is_bad_entry : List ℕ → Bool
-is_bad_entry image = not (entry image % 4 == 0) || not (is_executable image (entry image / page_size))
+is_bad_entry image = not (entry image % 4 == 0) || not (is_executable image (page_of (entry image)))
 
 -- the sentence of each fault; want of memory is none of the image's
 abbrev pub holds : LoadFault → List ℕ → Bool

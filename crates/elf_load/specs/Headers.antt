@@ -36,6 +36,6 @@ is_segment h = is_load h && nat_lt 0 h.memsz
 unfoldable pub segments : List ℕ → List Header
 segments image = filter is_segment (headers image)
 
--- the first address behind a segment
+-- the first address after a segment
 abbrev pub end_of : Header → ℕ
 end_of h = h.vaddr + h.memsz

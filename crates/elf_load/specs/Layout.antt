@@ -3,16 +3,12 @@ use Rattle.std.specs.Prelude.{ℕ, ◌+◌, ◌-◌, ◌*◌, ◌/◌, ◌%◌, 
 use Rattle.std.specs.List.{list_any, list_all, range_with_len}
 use Rattle.guest_mem.specs.declared.regions.Region.{Region}
 use Rattle.guest_mem.specs.declared.permissions.Perms.{Perms}
+use Rattle.guest_mem.specs.declared.spans.Span.{Span}
+use Rattle.guest_mem.specs.Pages.{page_size}
+use Rattle.guest_mem.specs.Spans.{page_numbers, meets, is_mapped}
+pub use Rattle.guest_mem.specs.Spans.{span_of}
 use Rattle.elf_load.specs.Headers.{segments, end_of}
 use Rattle.elf_load.specs.declared.headers.Header.{Header}
-use Rattle.elf_load.specs.declared.spans.Span.{Span}
-
--- the bytes of a page, and how many pages there are
-abbrev pub page_size : ℕ
-page_size = 4096
-
-abbrev pub page_numbers : ℕ
-page_numbers = 2 ^ 20
 
 -- the stack, and the end of what segments and heap may take
 abbrev pub stack_start : ℕ
@@ -44,11 +40,11 @@ highest_end (h ∷ hs) = max (end_of h) (highest_end hs)
 abbrev pub rounded_up : ℕ → ℕ
 rounded_up n = (n + (page_size - 1)) / page_size * page_size
 
--- the first page's start behind all segments
+-- the first page's start after all segments
 unfoldable pub start_behind : List Header → ℕ
 start_behind hs = rounded_up (highest_end hs)
 
--- the heap starts behind all segments, at a page's start
+-- the heap starts after all segments, at a page's start
 unfoldable pub heap_start : List ℕ → ℕ
 heap_start image = start_behind (segments image)
 
@@ -77,28 +73,13 @@ heap_at start = record { start = start; len = heap_limit start - start; perms = 
 abbrev pub heap_span : List ℕ → Span
 heap_span image = heap_at (heap_start image)
 
--- all that is mapped for segments; the stack stands before the heap, so that a search from the front comes to it early
+-- all that is mapped for segments
 unfoldable pub mapped_spans : List Header → List Span
 mapped_spans hs = map segment_span hs ++ stack_span ∷ heap_at (start_behind hs) ∷ []
 
 -- all that is mapped of an image
 unfoldable pub spans : List ℕ → List Span
 spans image = mapped_spans (segments image)
-
--- the first and the last page that a range with bytes meets
-abbrev pub first_page : Span → ℕ
-first_page s = s.start / page_size
-
-abbrev pub last_page : Span → ℕ
-last_page s = (s.start + s.len - 1) / page_size
-
--- a range meets a page
-abbrev pub meets : ℕ → Span → Bool
-meets page s = nat_lt 0 s.len && nat_le (first_page s) page && nat_le page (last_page s)
-
--- a page is mapped
-abbrev pub is_mapped : List Span → ℕ → Bool
-is_mapped ss page = list_any (meets page) ss
 
 -- how many numbers below n pass a test
 unfoldable pub count_below : ℕ → (ℕ → Bool) → ℕ
@@ -111,11 +92,6 @@ page_count ss = count_below page_numbers (is_mapped ss)
 -- how many pages a range meets that none of the ranges before it does
 unfoldable pub pages_added : List Span → Span → ℕ
 pages_added ss s = count_below page_numbers (λ page. meets page s && not (is_mapped ss page))
-
--- the permissions that a page gets of the ranges that meet it: their union
-unfoldable pub page_perms : List Span → ℕ → ℕ
-page_perms [] page = 0
-page_perms (s ∷ ss) page = if meets page s then bit_or s.perms.0 (page_perms ss page) else page_perms ss page
 
 -- the bytes that the file holds of a segment
 abbrev pub segment_bytes : List ℕ → Header → List ℕ
@@ -131,10 +107,6 @@ segment_region image h = region_of (segment_span h) (segment_bytes image h)
 -- the regions that a memory is made of
 unfoldable pub regions : List ℕ → List Region
 regions image = map (segment_region image) (segments image) ++ region_of stack_span [] ∷ region_of (heap_span image) [] ∷ []
-
--- the range of a region
-abbrev pub span_of : Region → Span
-span_of r = record { start = r.start; len = r.len; perms = r.perms }
 
 -- two ranges share no byte
 abbrev pub apart : Span → Span → Bool

@@ -10,10 +10,10 @@ use crate::headers::{HEADER_LIMIT, Header, headers_of, segments_of};
 use crate::layout::{heap_of, spans_of};
 use crate::layout_faults::layout_fault;
 use crate::segment_faults::segment_fault;
-use crate::spans::Span;
 use arrayvec::ArrayVec;
+use guest_mem::Span;
 
-/// What is to be laid out of an image: its segments, and the heap behind them.
+/// What is to be laid out of an image: its segments, and the heap after them.
 #[derive(Drop)]
 pub struct Plan {
     pub segments: ArrayVec<Header, HEADER_LIMIT>,

@@ -31,13 +31,13 @@ pub enum LoadFault {
     BadPhentsize,
     /// It has more than 64 program headers.
     TooManyHeaders,
-    /// Its program headers end behind its last byte.
+    /// Its program headers end after its last byte.
     HeadersPastEnd,
     /// It asks for a dynamic linker.
     Dynamic,
     /// The file holds more bytes of a segment than memory does.
     FileszAboveMemsz,
-    /// A segment's bytes end behind the last byte of the file.
+    /// A segment's bytes end after the last byte of the file.
     SegmentPastFile,
     /// A segment ends above FFFFF000.
     SegmentWraps,

@@ -19,7 +19,7 @@ pub const DYNAMIC: u32 = 2;
 
 pub const INTERPRETER: u32 = 3;
 
-// The places of the fields of a program header that a loader reads, behind its type.
+// The places of the fields of a program header that a loader reads, after its type.
 const OFFSET_PLACE: usize = 4;
 
 const VADDR_PLACE: usize = 8;

@@ -1,15 +1,14 @@
-// Where things lie in memory: the segments, the stack, and the heap behind the segments.
+// Where things lie in memory: the segments, the stack, and the heap after the segments.
 ghost use Rattle.std.specs.Prelude.{◌≡◌, ◌≤◌, length, false};
 ghost use Rattle.elf_load.specs.Layout.{read_write, highest_end, start_behind, heap_at, segment_span, stack_span, mapped_spans};
 ghost use Rattle.elf_load.specs.Faults.{any_wraps};
 
 use crate::headers::{HEADER_LIMIT, Header};
-use crate::spans::{PAGE_SIZE, Span};
 use arrayvec::ArrayVec;
 use bitflags::Flags;
-use guest_mem::Perms;
+use guest_mem::{PAGE_SIZE, Perms, Span};
 
-/// The stack: its first address, and the first behind it.
+/// The stack: its first address, and the first after it.
 pub const STACK_START: u32 = 0x7ff0_0000;
 
 pub const STACK_END: u32 = 0x8000_0000;
@@ -45,7 +44,7 @@ fn highest_end_of(segments: &[Header]) -> u64
     end
 }
 
-/// The heap behind segments that do not wrap.
+/// The heap after segments that do not wrap.
 #[tactic(auto, using(crate::proofs::LayoutLemmas::heap_steps))]
 pub fn heap_of(segments: &[Header]) -> Span
     requires { any_wraps segments.now ≡ false }

@@ -7,9 +7,9 @@ ghost use Rattle.elf_load.specs.Faults.{first_of, header_faults, segment_faults,
 use crate::faults::LoadFault;
 use crate::fields::{ENTRY_PLACE, u32_at};
 use crate::headers::Header;
-use crate::spans::{PAGE_SIZE, Span, pages_met, perms_of_page};
+use crate::spans::{pages_met, perms_of_page};
 use bitflags::Flags;
-use guest_mem::Perms;
+use guest_mem::{PAGE_SIZE, Perms, Span};
 
 // The most pages, which are 64 MiB.
 const PAGE_LIMIT: u32 = 16_384;

@@ -1,6 +1,8 @@
 // What is loaded of an image.
 ghost use Rattle.std.specs.Prelude.{◌≡◌, ◌≤◌, ◌%◌, map, true};
-ghost use Rattle.elf_load.specs.Layout.{all_apart, none_wraps, bytes_fit, span_of};
+ghost use Rattle.guest_mem.specs.Pages.{page_size};
+ghost use Rattle.guest_mem.specs.Spans.{span_of};
+ghost use Rattle.elf_load.specs.Layout.{all_apart, none_wraps, bytes_fit};
 
 use crate::region_list::RegionList;
 
@@ -16,7 +18,7 @@ pub struct Loaded {
     ghost apart: { all_apart (map span_of regions) ≡ true },
     ghost inside: { none_wraps (map span_of regions) ≡ true },
     ghost fits: { bytes_fit regions ≡ true },
-    ghost heap_aligned: { heap % 4096 ≡ 0 },
-    ghost heap_end_aligned: { heap_end % 4096 ≡ 0 },
+    ghost heap_aligned: { heap % page_size ≡ 0 },
+    ghost heap_end_aligned: { heap_end % page_size ≡ 0 },
     ghost ordered: { heap ≤ heap_end },
 }

@@ -12,7 +12,7 @@ use crate::headers::Header;
 use crate::loaded::Loaded;
 use crate::region_list::RegionList;
 use crate::regions::regions_of;
-use crate::spans::Span;
+use guest_mem::Span;
 use std::alloc::{AllocError, Global};
 
 // Lays out an image that has no fault.

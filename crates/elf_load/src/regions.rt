@@ -6,11 +6,10 @@ ghost use Rattle.elf_load.specs.Faults.{any_past_file};
 
 use crate::headers::Header;
 use crate::layout::{segment_span_of, stack};
-use crate::spans::Span;
-use guest_mem::{ByteList, Region};
+use guest_mem::{ByteList, Region, Span};
 use std::alloc::{AllocError, Global};
 
-// The bytes that the file holds of a segment. A segment without bytes may name a place behind the end of the file.
+// The bytes that the file holds of a segment. A segment without bytes may name a place after the end of the file.
 fn bytes_of<'a>(image: &'a [u8], header: &Header) -> &'a [u8]
     requires { 0 < header.now.filesz → header.now.offset + header.now.filesz ≤ length image.now }
     ensures { result.now ≡ segment_bytes image.now header.now }

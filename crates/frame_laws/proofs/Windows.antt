@@ -131,7 +131,7 @@ fill_on w first to k col what s fits inside register r j low below =
     let update = fill_step w to in
     let old : (r : ℕ) → r ≤ 34 → element w k col s1 r j ≡ element w k col s r j =
     λ r l. let n : r ≢ 52 = omega arith in numbered-element w k col free_row first what s fits inside r j below ∙ rw (ne_eqb r 52 n) refl in
-    ap (λ (z : ℕ → ℕ → Bool). z r j) (micros-element w k col (update ∷ []) s1 (everywhere-fits w (free_row ∷ []) (1 ∷ []) to true, tt) fits inside)
+    ap (λ (z : ℕ → ℕ → Bool). z r j) (micros-element w k col (update ∷ []) s1 (everywhere-fits w (free_row ∷ []) (1 ∷ []) to, tt) fits inside)
     ∙ ⊎_elim
     (λ (x : r ≡ to). rw (x, eq-eqb to to refl) (everywhere-here w (free_row ∷ []) (1 ∷ []) to true (element w k col s1) j below
     ∙ rw (numbered-element w k col free_row first what s fits inside free_row j below, old to (omega arith)) (filled (what (first + (col * (32 / w) + k))) (element w k col s to j))))

@@ -1,7 +1,6 @@
 -- What lists cost that go from bit to bit.
-use Rattle.std.proofs.Common.{◌≡◌, ℕ, ◌+◌, ◌-◌, ◌*◌, ◌<◌, ◌≤◌, true, false, cond, eqb, ltb, List, [], ◌∷◌, ◌++◌, zero, suc, map, length, refl, ◌∙◌, ap, arith}
+use Rattle.std.proofs.Common.{◌≡◌, ℕ, ◌+◌, ◌-◌, ◌*◌, ◌<◌, ◌≤◌, true, false, cond, ltb, List, [], ◌∷◌, ◌++◌, zero, suc, length, refl, ◌∙◌, ap, arith}
 use Rattle.std.proofs.lemmas.Bool.{lt-ltb, le-ltb}
-use Rattle.std.proofs.lemmas.List.{length-map}
 use Rattle.cam_chain.specs.declared.counts.Counts.{Counts}
 use Rattle.micro_ir.specs.Replay.{counts_and}
 use Rattle.micro_ir.specs.Steps.{Step, micros}
@@ -11,7 +10,7 @@ use Rattle.micro_ir.specs.WorkRows.{result_row}
 use Rattle.micro_ir.specs.Pieces.{everywhere, clear, commit}
 use Rattle.micro_ir.specs.WorkRows.{carry_row, truth_row}
 use Rattle.micro_ir.specs.Pieces.{above, downs}
-use Rattle.gen_arith.specs.Recipes.{once, operands, values_of, digit, ripple, Sum, sum_steps, add, sub, adc, sbc, Compare, truth_steps, madc, madc_in, msbc, msbc_in, eq, ne, ltu, lt, leu, le, gtu, gt, first_on, second_on, choice_steps}
+use Rattle.gen_arith.specs.Recipes.{digit, ripple, SumTables, sum_steps, add, sub, adc, sbc, TruthTables, truth_steps, madc, madc_in, msbc, msbc_in, eq, ne, ltu, lt, leu, le, gtu, gt, first_on, second_on, choice_steps}
 use Rattle.micro_ir.specs.Measures.{counts, Measured}
 use Rattle.gen_arith.specs.Laws.{operations_in, SumMeasured, TruthMeasured, ChoiceMeasured}
 
@@ -114,28 +113,9 @@ ripple-near w inputs digits carries c d (suc n) p q =
       ],
     )
 
--- a table of two rows that are one has as many values
-pub values-length : (on : List ℕ) (a b : ℕ) → length (values_of on a b) ≡ length on
-values-length on a b =
-    elim (eqb a b) as (λ x. length (cond x (map (once on) on) on) ≡ length on) [
-      | true ↦ length-map on (once on)
-      | false ↦ refl
-    ]
-
-some-map : (f : ℕ → ℕ) (on : List ℕ) → some (map f on) ≡ some on
-some-map f [] = refl
-some-map f (t ∷ ts) = refl
-
-pub values-some : (on : List ℕ) (a b : ℕ) → some (values_of on a b) ≡ some on
-values-some on a b =
-    elim (eqb a b) as (λ x. some (cond x (map (once on) on) on) ≡ some on) [
-      | true ↦ some-map (once on) on
-      | false ↦ refl
-    ]
-
 -- ---- sums
 
-sum-near : (k : Sum) (w a b to : ℕ) → to < 32 → Near (sum_steps k w a b to)
+sum-near : (k : SumTables) (w a b to : ℕ) → to < 32 → Near (sum_steps k w a b to)
 unfolding sum_steps
 sum-near k w a b to register = (
   omega arith,
@@ -146,31 +126,27 @@ sum-near k w a b to register = (
     (
       omega arith,
       omega arith,
-      Near-append (ripple w (carry_row ∷ operands a b) (values_of k.digits a b) (values_of k.carries a b) carry_row result_row w) (commit w result_row to)
-          (ripple-near w (carry_row ∷ operands a b) (values_of k.digits a b) (values_of k.carries a b) carry_row result_row w (omega arith) (omega arith))
+      Near-append (ripple w (carry_row ∷ a ∷ b ∷ []) k.digits k.carries carry_row result_row w) (commit w result_row to)
+          (ripple-near w (carry_row ∷ a ∷ b ∷ []) k.digits k.carries carry_row result_row w (omega arith) (omega arith))
           (omega arith, omega arith, (omega arith, omega arith, tt)),
     ),
   ),
 )
 
-sum-counts : (k : Sum) (n a b to : ℕ) → steps_counts (sum_steps k (suc n) a b to)
+sum-counts : (k : SumTables) (n a b to : ℕ) → steps_counts (sum_steps k (suc n) a b to)
     ≡ counts (4 + length k.from_on + n * (length k.digits + length k.carries) + length k.digits) (4 + some k.from_on + n * (some k.digits + some k.carries) + some k.digits) (n * some k.carries)
 unfolding sum_steps
 sum-counts k n a b to =
-    let ds = ripple (suc n) (carry_row ∷ operands a b) (values_of k.digits a b) (values_of k.carries a b) carry_row result_row (suc n) in
+    let ds = ripple (suc n) (carry_row ∷ a ∷ b ∷ []) k.digits k.carries carry_row result_row (suc n) in
     rw (
       here-counts k.from k.from_on carry_row 0,
       steps_counts-append ds (commit (suc n) result_row to),
-      whole-counts (carry_row ∷ operands a b) (values_of k.digits a b) (values_of k.carries a b) carry_row result_row n,
-      values-length k.digits a b,
-      values-length k.carries a b,
-      values-some k.digits a b,
-      values-some k.carries a b,
+      whole-counts (carry_row ∷ a ∷ b ∷ []) k.digits k.carries carry_row result_row n,
     )
     (counts-same _ _ _ _ _ _ (omega arith) (omega arith) (omega arith))
 
 -- a sum by its counts, from those of all sums
-sum-measured : (k : Sum) (all : ℕ → Counts) → ((n : ℕ) →
+sum-measured : (k : SumTables) (all : ℕ → Counts) → ((n : ℕ) →
     counts (4 + length k.from_on + n * (length k.digits + length k.carries) + length k.digits) (4 + some k.from_on + n * (some k.digits + some k.carries) + some k.digits) (n * some k.carries) ≡ all (suc n))
     → SumMeasured k all
 sum-measured k all e zero a b to pos register = absurd (omega arith)
@@ -190,11 +166,11 @@ sbc-measured = sum-measured sbc _ (λ n. counts-same _ _ _ _ _ _ (omega arith) (
 
 -- ---- truths
 
-pub truth-near : (k : Compare) (w a b : ℕ) → Near (truth_steps k w a b)
+pub truth-near : (k : TruthTables) (w a b : ℕ) → Near (truth_steps k w a b)
 unfolding truth_steps
 truth-near k w a b =
-    let ds = ripple w (carry_row ∷ operands a b) [] (values_of k.carries a b) carry_row truth_row (w - 1) in
-    let final = above (carry_row ∷ operands a b) (values_of k.last a b) truth_row (w - 1) 0 in (
+    let ds = ripple w (carry_row ∷ a ∷ b ∷ []) [] k.carries carry_row truth_row (w - 1) in
+    let final = above (carry_row ∷ a ∷ b ∷ []) k.last truth_row (w - 1) 0 in (
       omega arith,
       omega arith,
       (
@@ -203,33 +179,29 @@ truth-near k w a b =
         (
           omega arith,
           omega arith,
-          Near-append ds (final ∷ []) (ripple-near w (carry_row ∷ operands a b) [] (values_of k.carries a b) carry_row truth_row (w - 1) (omega arith) (omega arith)) (omega arith, omega arith, tt),
+          Near-append ds (final ∷ []) (ripple-near w (carry_row ∷ a ∷ b ∷ []) [] k.carries carry_row truth_row (w - 1) (omega arith) (omega arith)) (omega arith, omega arith, tt),
         ),
       ),
     )
 
-pub truth-counts : (k : Compare) (n a b : ℕ) → steps_counts (truth_steps k (suc n) a b)
+pub truth-counts : (k : TruthTables) (n a b : ℕ) → steps_counts (truth_steps k (suc n) a b)
     ≡ counts (2 + length k.from_on + n * length k.carries + length k.last) (2 + some k.from_on + n * some k.carries + some k.last) (n * some k.carries)
 unfolding truth_steps
 truth-counts k n a b =
-    let ds = ripple (suc n) (carry_row ∷ operands a b) [] (values_of k.carries a b) carry_row truth_row n in
-    let final = above (carry_row ∷ operands a b) (values_of k.last a b) truth_row n 0 in
+    let ds = ripple (suc n) (carry_row ∷ a ∷ b ∷ []) [] k.carries carry_row truth_row n in
+    let final = above (carry_row ∷ a ∷ b ∷ []) k.last truth_row n 0 in
     let z : suc n - 1 ≡ n = omega arith in
     rw (
       z,
       here-counts k.from k.from_on carry_row 0,
       steps_counts-append ds (final ∷ []),
-      ripple-counts (suc n) (carry_row ∷ operands a b) [] (values_of k.carries a b) carry_row truth_row n (omega arith),
-      here-counts (carry_row ∷ operands a b) (values_of k.last a b) truth_row n,
-      values-length k.carries a b,
-      values-length k.last a b,
-      values-some k.carries a b,
-      values-some k.last a b,
+      ripple-counts (suc n) (carry_row ∷ a ∷ b ∷ []) [] k.carries carry_row truth_row n (omega arith),
+      here-counts (carry_row ∷ a ∷ b ∷ []) k.last truth_row n,
     )
     (counts-same _ _ _ _ _ _ (omega arith) (omega arith) (omega arith))
 
 -- a comparison by its counts, from those of all comparisons
-truth-measured : (k : Compare) (all : ℕ → Counts) → ((n : ℕ) →
+truth-measured : (k : TruthTables) (all : ℕ → Counts) → ((n : ℕ) →
     counts (2 + length k.from_on + n * length k.carries + length k.last) (2 + some k.from_on + n * some k.carries + some k.last) (n * some k.carries) ≡ all (suc n))
     → TruthMeasured k all
 truth-measured k all e zero a b pos = absurd (omega arith)
@@ -278,10 +250,10 @@ unfolding downs
 downs-near row zero h = tt
 downs-near row (suc n) h = (h, omega arith, downs-near row n h)
 
-choice-near : (k : Compare) (on : List ℕ) (w a b to : ℕ) → to < 32 → Near (choice_steps k on w a b to)
+choice-near : (k : TruthTables) (on : List ℕ) (w a b to : ℕ) → to < 32 → Near (choice_steps k on w a b to)
 unfolding choice_steps
 choice-near k on w a b to register =
-    let merge = everywhere w (truth_row ∷ operands a b) (values_of on a b) result_row true in
+    let merge = everywhere w (truth_row ∷ a ∷ b ∷ []) on result_row true in
     let rest : List Step = clear w result_row ∷ merge ∷ commit w result_row to in
     Near-append (truth_steps k w a b) (downs truth_row (w - 1) ++ rest) (truth-near k w a b)
     (Near-append (downs truth_row (w - 1)) rest (downs-near truth_row (w - 1) (omega arith))
@@ -291,13 +263,13 @@ everywhere-counts : (w : ℕ) (inputs on : List ℕ) (out : ℕ) → step_counts
 everywhere-counts w inputs [] out = refl
 everywhere-counts w inputs (t ∷ ts) out = refl
 
-choice-counts : (k : Compare) (on : List ℕ) (n a b to : ℕ) → steps_counts (choice_steps k on (suc n) a b to)
+choice-counts : (k : TruthTables) (on : List ℕ) (n a b to : ℕ) → steps_counts (choice_steps k on (suc n) a b to)
     ≡ counts (2 + length k.from_on + n * length k.carries + length k.last + n + length on + 3) (2 + some k.from_on + n * some k.carries + some k.last + n + some on + 3) (n * some k.carries + n)
 unfolding choice_steps
 choice-counts k on n a b to =
     let w = suc n in
     let z : suc n - 1 ≡ n = omega arith in
-    let merge = everywhere w (truth_row ∷ operands a b) (values_of on a b) result_row true in
+    let merge = everywhere w (truth_row ∷ a ∷ b ∷ []) on result_row true in
     let rest : List Step = clear w result_row ∷ merge ∷ commit w result_row to in
     rw (
       z,
@@ -305,14 +277,12 @@ choice-counts k on n a b to =
       truth-counts k n a b,
       steps_counts-append (downs truth_row n) rest,
       downs-counts truth_row n,
-      everywhere-counts w (truth_row ∷ operands a b) (values_of on a b) result_row,
-      values-length on a b,
-      values-some on a b,
+      everywhere-counts w (truth_row ∷ a ∷ b ∷ []) on result_row,
     )
     (counts-same _ _ _ _ _ _ (omega arith) (omega arith) (omega arith))
 
 -- a choice by its counts, from those of all choices
-choice-measured : (k : Compare) (on : List ℕ) (all : ℕ → Counts) → ((n : ℕ) →
+choice-measured : (k : TruthTables) (on : List ℕ) (all : ℕ → Counts) → ((n : ℕ) →
     counts (2 + length k.from_on + n * length k.carries + length k.last + n + length on + 3) (2 + some k.from_on + n * some k.carries + some k.last + n + some on + 3) (n * some k.carries + n) ≡ all (suc n))
     → ChoiceMeasured k on all
 choice-measured k on all e zero a b to pos register = absurd (omega arith)

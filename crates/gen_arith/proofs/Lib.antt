@@ -4,8 +4,8 @@ pub mod Rows
 pub mod Numbers
 pub mod Sums
 pub mod Costs
-pub mod Folded
-pub mod Lists
+pub mod Written
 pub mod Orders
 pub mod Truths
 pub mod Choices
+pub mod Families

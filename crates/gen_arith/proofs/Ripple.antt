@@ -1,7 +1,7 @@
--- Steps from bit to bit, on one element: of any inputs, for any tables of digits and of carries. (Whatever carries will
--- want this; it belongs below the crates of the kinds.)
-use Rattle.std.proofs.Common.{◌≡◌, ◌≢◌, ℕ, ◌+◌, ◌<◌, ◌≤◌, Bool, true, false, ◌||◌, List, [], ◌∷◌, zero, suc, map, refl, sym, ◌∙◌, ap, arith, ⊎_elim}
+-- Steps from bit to bit, on one element: of any inputs, for any tables of digits and of carries.
+use Rattle.std.proofs.Common.{◌≡◌, ◌≢◌, ℕ, ◌+◌, ◌<◌, ◌≤◌, Bool, true, false, ◌||◌, List, [], ◌∷◌, zero, suc, map, refl, sym, ◌∙◌, ap, arith, inl, inr, ⊎_elim}
 use Rattle.std.proofs.lemmas.Bool.{cases_lt, cases_eq, lt-ltb, le-ltb}
+use Rattle.micro_ir.specs.Folding.{has_whole}
 use Rattle.micro_ir.specs.Steps.{fires, step_on, steps_on, AllFit}
 use Rattle.micro_ir.proofs.StepLists.{steps_on-append, AllFit-append}
 use Rattle.micro_ir.proofs.OneElement.{hit, fires-hit, step-row, above-else, above-here, above-fits}
@@ -123,12 +123,12 @@ carry-out w inputs digits on last c d first e now n i a inside low p =
     fires-hit (c ∷ inputs) last (λ r. now r i)
     ∙ rw (p.here i low inside, same_inputs c d inputs (λ r. now r i) (λ r. e r i) a (λ r q s. p.rest r i q s)) refl
 
-pub ripple-fits : (w : ℕ) (inputs digits on : List ℕ) (c d n : ℕ) → n ≤ w → AllFit w (ripple w inputs digits on c d n)
+pub ripple-fits : (w : ℕ) (inputs digits on : List ℕ) (c d n : ℕ) → has_whole inputs on ≡ true → n ≤ w → AllFit w (ripple w inputs digits on c d n)
 unfolding ripple
-ripple-fits w inputs digits on c d zero h = tt
-ripple-fits w inputs digits on c d (suc n) h =
-    AllFit-append w (ripple w inputs digits on c d n) (digit w inputs digits on c d n) (ripple-fits w inputs digits on c d n (omega arith)) (
-      above-fits w inputs digits d n 0 (omega arith),
-      ⊎_elim (λ (l : suc n < w). rw (lt-ltb (suc n) w l) (above-fits w inputs on c n 1 (omega arith), tt))
+ripple-fits w inputs digits on c d zero whole h = tt
+ripple-fits w inputs digits on c d (suc n) whole h =
+    AllFit-append w (ripple w inputs digits on c d n) (digit w inputs digits on c d n) (ripple-fits w inputs digits on c d n whole (omega arith)) (
+      above-fits w inputs digits d n 0 (omega arith) (inr (refl, refl)),
+      ⊎_elim (λ (l : suc n < w). rw (lt-ltb (suc n) w l) (above-fits w inputs on c n 1 (omega arith) (inl whole), tt))
           (λ (l : w ≤ suc n). rw (le-ltb (suc n) w l) tt) (cases_lt (suc n) w),
     )

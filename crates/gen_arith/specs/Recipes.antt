@@ -1,34 +1,9 @@
 -- The lists of steps of the kinds that carry from bit to bit: sums, comparisons, and the lesser and the greater of two.
-use Rattle.std.specs.Prelude.{ℕ, ◌-◌, Bool, true, cond, not, eqb, zero, suc, List, [], ◌∷◌, ◌++◌, map, ◌%◌}
+use Rattle.std.specs.Prelude.{ℕ, ◌-◌, true, cond, zero, suc, List, [], ◌∷◌, ◌++◌}
 use lib.Dec.{ltb}
-use mathlib.Core.Bool.{beq}
-use Rattle.bit_laws.specs.Numbers.{bit_of}
 use Rattle.micro_ir.specs.Steps.{Step}
 use Rattle.micro_ir.specs.WorkRows.{mask_row, carry_row, result_row, truth_row}
 use Rattle.micro_ir.specs.Pieces.{everywhere, above, clear, commit, downs}
-
--- ---- a table of three rows, of which the second and the third may be one
-
--- the value asks for two different bits of that row
-abbrev pub is_torn : ℕ → Bool
-is_torn t = not (beq (bit_of t 1) (bit_of t 2))
-
--- the least value that does not, of a list in rising order
-abbrev pub least_whole : List ℕ → ℕ
-least_whole [] = 0
-least_whole (t ∷ ts) = cond (is_torn t) (least_whole ts) t
-
--- The value where that row is named once. A torn value finds nothing, and stands for the least one that is not torn.
-abbrev pub once : List ℕ → ℕ → ℕ
-once on t = cond (is_torn t) (least_whole on) t % 4
-
--- each of the two operands once
-abbrev pub operands : (a b : ℕ) → List ℕ
-operands a b = cond (eqb a b) (a ∷ []) (a ∷ b ∷ [])
-
--- and the values of the table for the first row and them
-abbrev pub values_of : (on : List ℕ) (a b : ℕ) → List ℕ
-values_of on a b = cond (eqb a b) (map (once on) on) on
 
 -- ---- from bit to bit
 
@@ -44,18 +19,18 @@ ripple w inputs digits carries carry out (suc n) = ripple w inputs digits carrie
 
 -- ---- sums: tables of the carry, a and b
 
--- A sum: what the carry into the lowest bit is made of, the digits, and the carries.
-pub record Sum : Type 0 where
+-- The tables of a sum: what the carry into the lowest bit is made of, the digits, and the carries.
+pub record SumTables : Type 0 where
   pub from : List ℕ
   pub from_on : List ℕ
   pub digits : List ℕ
   pub carries : List ℕ
 
--- row a and row b into the register `to`
-unfoldable pub sum_steps : Sum → (w a b to : ℕ) → List Step
+-- the sum of row a and row b into the register `to`
+unfoldable pub sum_steps : SumTables → (w a b to : ℕ) → List Step
 sum_steps k w a b to =
     clear w carry_row ∷ above k.from k.from_on carry_row 0 0 ∷ clear w result_row
-    ∷ (ripple w (carry_row ∷ operands a b) (values_of k.digits a b) (values_of k.carries a b) carry_row result_row w ++ commit w result_row to)
+    ∷ (ripple w (carry_row ∷ a ∷ b ∷ []) k.digits k.carries carry_row result_row w ++ commit w result_row to)
 
 -- one or three of the bits are 1
 abbrev pub odd_on : List ℕ
@@ -72,36 +47,36 @@ odd_not_on = 0 ∷ 3 ∷ 5 ∷ 6 ∷ []
 abbrev pub most_not_on : List ℕ
 most_not_on = 1 ∷ 2 ∷ 3 ∷ 7 ∷ []
 
-abbrev pub add : Sum
+abbrev pub add : SumTables
 add = record { from = []; from_on = []; digits = odd_on; carries = most_on }
 
 -- a plus b inverted plus 1
-abbrev pub sub : Sum
+abbrev pub sub : SumTables
 sub = record { from = []; from_on = 0 ∷ []; digits = odd_not_on; carries = most_not_on }
 
 -- the mask bit is carried in
-abbrev pub adc : Sum
+abbrev pub adc : SumTables
 adc = record { from = mask_row ∷ []; from_on = 1 ∷ []; digits = odd_on; carries = most_on }
 
 -- the mask bit is borrowed
-abbrev pub sbc : Sum
+abbrev pub sbc : SumTables
 sbc = record { from = mask_row ∷ []; from_on = 0 ∷ []; digits = odd_not_on; carries = most_not_on }
 
 -- ---- truths: tables of the carry, a and b
 
--- A comparison: what the carry into the lowest bit is made of, the carries, and the truth at the highest bit.
-pub record Compare : Type 0 where
+-- The tables of a truth: what the carry into the lowest bit is made of, the carries, and the truth at the highest bit.
+pub record TruthTables : Type 0 where
   pub from : List ℕ
   pub from_on : List ℕ
   pub carries : List ℕ
   pub last : List ℕ
 
 -- the truth of row a and row b into the highest bit of the truth row
-unfoldable pub truth_steps : Compare → (w a b : ℕ) → List Step
+unfoldable pub truth_steps : TruthTables → (w a b : ℕ) → List Step
 truth_steps k w a b =
     clear w carry_row ∷ clear w truth_row ∷ above k.from k.from_on carry_row 0 0
-    ∷ (ripple w (carry_row ∷ operands a b) [] (values_of k.carries a b) carry_row truth_row (w - 1)
-    ++ above (carry_row ∷ operands a b) (values_of k.last a b) truth_row (w - 1) 0 ∷ [])
+    ∷ (ripple w (carry_row ∷ a ∷ b ∷ []) [] k.carries carry_row truth_row (w - 1)
+    ++ above (carry_row ∷ a ∷ b ∷ []) k.last truth_row (w - 1) 0 ∷ [])
 
 -- the borrow of a - b: two or three of the carry, a inverted and b are 1
 abbrev pub borrow_on : List ℕ
@@ -122,49 +97,49 @@ at_most_on = 0 ∷ 4 ∷ 5 ∷ 6 ∷ []
 abbrev pub at_most_signed_on : List ℕ
 at_most_signed_on = 0 ∷ 2 ∷ 3 ∷ 6 ∷ []
 
-abbrev pub compare : (carries last : List ℕ) → Compare
+abbrev pub compare : (carries last : List ℕ) → TruthTables
 compare carries last = record { from = []; from_on = []; carries = carries; last = last }
 
 -- with the mask bit carried in
-abbrev pub compare_in : (carries last : List ℕ) → Compare
+abbrev pub compare_in : (carries last : List ℕ) → TruthTables
 compare_in carries last = record { from = mask_row ∷ []; from_on = 1 ∷ []; carries = carries; last = last }
 
-abbrev pub madc : Compare
+abbrev pub madc : TruthTables
 madc = compare most_on most_on
 
-abbrev pub madc_in : Compare
+abbrev pub madc_in : TruthTables
 madc_in = compare_in most_on most_on
 
-abbrev pub msbc : Compare
+abbrev pub msbc : TruthTables
 msbc = compare borrow_on borrow_on
 
-abbrev pub msbc_in : Compare
+abbrev pub msbc_in : TruthTables
 msbc_in = compare_in borrow_on borrow_on
 
-abbrev pub eq : Compare
+abbrev pub eq : TruthTables
 eq = compare unlike_on alike_on
 
-abbrev pub ne : Compare
+abbrev pub ne : TruthTables
 ne = compare unlike_on unlike_on
 
-abbrev pub ltu : Compare
+abbrev pub ltu : TruthTables
 ltu = compare borrow_on borrow_on
 
 -- signed: both highest bits are inverted
-abbrev pub lt : Compare
+abbrev pub lt : TruthTables
 lt = compare borrow_on most_not_on
 
 -- the borrow of b - a; the carry of a and b inverted has its table
-abbrev pub leu : Compare
+abbrev pub leu : TruthTables
 leu = compare most_not_on at_most_on
 
-abbrev pub le : Compare
+abbrev pub le : TruthTables
 le = compare most_not_on at_most_signed_on
 
-abbrev pub gtu : Compare
+abbrev pub gtu : TruthTables
 gtu = compare most_not_on most_not_on
 
-abbrev pub gt : Compare
+abbrev pub gt : TruthTables
 gt = compare most_not_on borrow_on
 
 -- ---- one of two, by a truth
@@ -178,7 +153,7 @@ abbrev pub second_on : List ℕ
 second_on = 2 ∷ 5 ∷ 6 ∷ 7 ∷ []
 
 -- row a or row b into the register `to`, as the comparison and the table say
-unfoldable pub choice_steps : Compare → (on : List ℕ) → (w a b to : ℕ) → List Step
+unfoldable pub choice_steps : TruthTables → (on : List ℕ) → (w a b to : ℕ) → List Step
 choice_steps k on w a b to =
     truth_steps k w a b ++ (downs truth_row (w - 1)
-    ++ clear w result_row ∷ everywhere w (truth_row ∷ operands a b) (values_of on a b) result_row true ∷ commit w result_row to)
+    ++ clear w result_row ∷ everywhere w (truth_row ∷ a ∷ b ∷ []) on result_row true ∷ commit w result_row to)

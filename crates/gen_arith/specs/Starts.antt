@@ -1,7 +1,6 @@
 -- What is carried into the lowest bit.
-use Rattle.std.specs.Prelude.{ℕ, List, [], ◌∷◌}
+use Rattle.std.specs.Prelude.{ℕ, ◌*◌, List, [], ◌∷◌, length}
 use Rattle.micro_ir.specs.WorkRows.{mask_row}
-use Rattle.gen_arith.specs.Recipes.{Sum, Compare}
 use Rattle.gen_arith.specs.declared.steps.Start.{Start}
 use Rattle.gen_arith.specs.declared.steps.Start.TheVariants.{Zero, One, Mask, NotMask}
 
@@ -19,17 +18,6 @@ values_from One = 0 ∷ []
 values_from Mask = 1 ∷ []
 values_from NotMask = 0 ∷ []
 
--- the number of operations that this takes
+-- the number of operations that this takes: a search and an update for each value
 abbrev pub start_count : Start → ℕ
-start_count Zero = 0
-start_count One = 2
-start_count Mask = 2
-start_count NotMask = 2
-
--- the sum with these tables
-abbrev pub sum_of : Start → (digits carries : List ℕ) → Sum
-sum_of start digits carries = record { from = rows_from start; from_on = values_from start; digits = digits; carries = carries }
-
--- the comparison with these tables
-abbrev pub compare_of : Start → (carries last : List ℕ) → Compare
-compare_of start carries last = record { from = rows_from start; from_on = values_from start; carries = carries; last = last }
+start_count start = 2 * length (values_from start)

@@ -2,25 +2,12 @@
 ghost use Rattle.std.specs.Prelude.{◌≡◌, ◌+◌, ◌-◌, ◌*◌, ◌<◌, ◌≤◌, [], ◌∷◌, ◌++◌, length};
 ghost use Rattle.micro_ir.specs.Steps.{micro, micros};
 ghost use Rattle.micro_ir.specs.Pieces.{above};
-ghost use Rattle.micro_ir.specs.WorkRows.{IsOperandRow};
-ghost use Rattle.gen_arith.specs.Recipes.{operands, values_of, ripple};
+ghost use Rattle.micro_ir.specs.WorkRows.{IsOperandRow, carry_row, result_row, truth_row};
+ghost use Rattle.gen_arith.specs.Recipes.{ripple};
 ghost use Rattle.gen_arith.specs.Starts.{rows_from, values_from, start_count};
 
-use crate::folding::{Table, folded};
 use bit_laws::Width;
-use micro_ir::{MicroBuf, emit_above};
-
-// The row of the mask bits, where the mask is an operand.
-pub(crate) const MASK_ROW: u8 = 33;
-
-// The row of the carry into each bit.
-pub(crate) const CARRY_ROW: u8 = 35;
-
-// The row that a result is made in.
-pub(crate) const RESULT_ROW: u8 = 36;
-
-// The row of truths, at the highest bit of each element.
-pub(crate) const TRUTH_ROW: u8 = 41;
+use micro_ir::{CARRY_ROW, MASK_ROW, MicroBuf, RESULT_ROW, emit_above};
 
 // What is carried into the lowest bit: nothing, one, the mask bit, or one less the mask bit.
 #[derive(Clone, Copy)]
@@ -34,7 +21,7 @@ pub(crate) enum Start {
 // What is carried into the lowest bit, into the cleared carry row.
 pub(crate) fn emit_start<W: Width>(buf: &mut MicroBuf, start: Start)
     requires room { start_count start ≤ buf.old.spare }
-    ensures ops { buf.new.ops ≡ buf.old.ops ++ micro W.BITS (above (rows_from start) (values_from start) 35 0 0) }
+    ensures ops { buf.new.ops ≡ buf.old.ops ++ micro W.BITS (above (rows_from start) (values_from start) carry_row 0 0) }
     ensures spare { buf.new.spare + start_count start ≡ buf.old.spare }
 {
     match start {
@@ -58,21 +45,15 @@ pub(crate) fn emit_table_at<W: Width>(
     requires a { IsOperandRow a }
     requires b { IsOperandRow b }
     requires some { 0 < length on.now }
-    requires few { length on.now ≤ 8 }
+    requires out { out < 64 }
     requires bit { bit + times < W.BITS }
     requires times { times ≤ 1 }
     requires room { length on.now + (1 + times) ≤ buf.old.spare }
     ensures ops { buf.new.ops
-        ≡ buf.old.ops ++ micro W.BITS (above (35 ∷ operands a b) (values_of on.now a b) out bit times) }
+        ≡ buf.old.ops ++ micro W.BITS (above (carry_row ∷ a ∷ b ∷ []) on.now out bit times) }
     ensures spare { buf.new.spare + (length on.now + (1 + times)) ≡ buf.old.spare }
 {
-    let Table {
-        rows,
-        named,
-        values,
-        count,
-    } = folded(CARRY_ROW, a, b, on);
-    emit_above::<W>(buf, &rows[..named], &values[..count], out, bit, times);
+    emit_above::<W>(buf, &[CARRY_ROW, a, b], on, out, bit, times);
 }
 
 // The carries into all bits but the lowest, in rising order.
@@ -80,10 +61,9 @@ pub(crate) fn emit_carries<W: Width>(buf: &mut MicroBuf, a: u8, b: u8, carries: 
     requires a { IsOperandRow a }
     requires b { IsOperandRow b }
     requires some { 0 < length carries.now }
-    requires few { length carries.now ≤ 8 }
     requires room { (W.BITS - 1) * (length carries.now + 2) ≤ buf.old.spare }
-    ensures ops { buf.new.ops
-        ≡ buf.old.ops ++ micros W.BITS (ripple W.BITS (35 ∷ operands a b) [] (values_of carries.now a b) 35 41 (W.BITS - 1)) }
+    ensures ops { buf.new.ops ≡ buf.old.ops ++ micros W.BITS
+        (ripple W.BITS (carry_row ∷ a ∷ b ∷ []) [] carries.now carry_row truth_row (W.BITS - 1)) }
     ensures spare { buf.new.spare + (W.BITS - 1) * (length carries.now + 2) ≡ buf.old.spare }
 {
     for bit in 0..W::BITS as u8 - 1 {
@@ -98,8 +78,8 @@ pub(crate) fn emit_digits<W: Width>(buf: &mut MicroBuf, a: u8, b: u8, digits: &[
     requires digits { length digits.now ≡ 4 }
     requires carries { length carries.now ≡ 4 }
     requires room { 11 * W.BITS - 6 ≤ buf.old.spare }
-    ensures ops { buf.new.ops
-        ≡ buf.old.ops ++ micros W.BITS (ripple W.BITS (35 ∷ operands a b) (values_of digits.now a b) (values_of carries.now a b) 35 36 W.BITS) }
+    ensures ops { buf.new.ops ≡ buf.old.ops ++ micros W.BITS
+        (ripple W.BITS (carry_row ∷ a ∷ b ∷ []) digits.now carries.now carry_row result_row W.BITS) }
     ensures spare { buf.new.spare + (11 * W.BITS - 6) ≡ buf.old.spare }
 {
     let last = W::BITS as u8 - 1;

@@ -1,4 +1,4 @@
--- The steps of the frame: the scalar in every element, and ones in free elements.
+-- The steps of the frame: the scalar in every element, and ones in agnostic elements.
 use Rattle.std.proofs.Common.{◌≡◌, ◌≢◌, ℕ, ◌+◌, ◌*◌, ◌/◌, ◌%◌, ◌^◌, ◌<◌, bit_and, add-one, sym, Bool, true, false, cond, ◌&&◌, eqb, ltb, [], ◌∷◌, ◌++◌, refl, ◌∙◌, arith, ⊎_elim}
 use Rattle.std.proofs.lemmas.Bool.{cases_eq, lt-ltb, le-ltb, eq-eqb, ne_eqb}
 use Rattle.std.proofs.lemmas.Nat.{one_shl}
@@ -8,6 +8,7 @@ use Rattle.std.specs.Int.{bit_at}
 use Rattle.bit_laws.specs.Numbers.{bit_of}
 use Rattle.micro_ir.specs.Steps.{steps_on, micro, micros}
 use Rattle.micro_ir.specs.declared.op.MicroOp.TheVariants.{Search, Update}
+use Rattle.micro_ir.specs.Folding.{table_keys, first_whole, keys_with}
 use Rattle.micro_ir.specs.Subs.{subs_below, subs_of}
 use Rattle.micro_ir.specs.Pieces.{clear}
 use Rattle.micro_ir.specs.Effects.{Makes}
@@ -23,7 +24,7 @@ use Rattle.micro_ir.specs.Measures.{counts, Measured}
 -- the list of the scalar, as it is written
 pub splat-list : (w scalar : ℕ) → let ones : ℕ → Bool = λ j. ltb j w && bit_of scalar j in
     micros w (splat w scalar) ≡ micro w (clear w scalar_row) ++ (Search (subs_of w ones) [] false ∷ Update (subs_of w ones) scalar_row true ∷ [])
-unfolding micros micro splat
+unfolding micros micro splat table_keys first_whole keys_with
 splat-list w scalar =
     let ones : ℕ → Bool = λ j. ltb j w && bit_of scalar j in
     rw (still w ones) refl
@@ -68,7 +69,7 @@ splat-measured w scalar = record {
 pub fill-makes : (w to : ℕ) → Makes w (λ e r i. cond (eqb r to && e free_row i) true (e r i)) (micros w (fill_step w to ∷ []))
 unfolding steps_on
 fill-makes w to =
-    makes w _ (fill_step w to ∷ []) (everywhere-fits w (free_row ∷ []) (1 ∷ []) to true, tt) inside (λ e r i past none. rw (none free_row, none r) (none_of (eqb r to) true false))
+    makes w _ (fill_step w to ∷ []) (everywhere-fits w (free_row ∷ []) (1 ∷ []) to, tt) inside (λ e r i past none. rw (none free_row, none r) (none_of (eqb r to) true false))
   where
     filled : (x y : Bool) → cond (hit (1 ∷ []) (x ∷ [])) true y ≡ cond x true y
     filled true y = refl

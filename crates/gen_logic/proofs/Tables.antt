@@ -1,19 +1,24 @@
--- Lists that clear the result row, make a result there by one step, and commit it.
-use Rattle.std.proofs.Common.{◌≡◌, ◌≢◌, ℕ, ◌+◌, ◌<◌, Bool, true, false, cond, ◌||◌, eqb, List, [], ◌∷◌, map, length, refl, sym, ◌∙◌, ap, arith, subst, ⊎_elim}
-use Rattle.std.proofs.lemmas.Bool.{cases_eq, eq-eqb, ne_eqb}
-use Rattle.std.proofs.lemmas.List.{length-map}
+-- Lists that clear the result row, make a result there by one step, and commit it; the kinds.
+use Rattle.std.proofs.Common.{◌≡◌, ◌≢◌, ℕ, zero, suc, ◌+◌, ◌%◌, ◌<◌, ◌≤◌, min, max, Bool, true, false, cond, ◌&&◌, ◌||◌, not, eqb, List, [], ◌∷◌, ◌++◌, map, length, refl, sym, ◌∙◌, ap, arith, ⊎_elim}
+use Rattle.std.specs.Prelude.{bit_and, bit_or, bit_xor}
+use Rattle.std.specs.Int.{bit_at}
+use Rattle.std.proofs.lemmas.Nat.Bits.{bit_at_and, bit_at_or, bit_at_xor, bit_at-lt}
+use Rattle.std.proofs.lemmas.Bool.{lt-ltb}
 use Rattle.bit_laws.specs.Numbers.{number, bit_of}
 use Rattle.bit_laws.proofs.Numbers.{number-same, bit-number, number-bits}
 use Rattle.micro_ir.specs.declared.op.MicroOp.{MicroOp}
-use Rattle.micro_ir.specs.Steps.{Step, step_on, steps_on, Fits, AllFit, micros, element}
+use Rattle.micro_ir.specs.Steps.{Step, fires, step_on, steps_on, AllFit, micro, micros, element}
 use Rattle.micro_ir.proofs.Lift.{micros-element}
 use Rattle.micro_ir.proofs.StepLists.{tally-micros, length-micros, AllInRange-micros}
-use Rattle.micro_ir.specs.WorkRows.{active_row, mask_row, result_row}
+use Rattle.micro_ir.specs.Folding.{are_rows}
+use Rattle.micro_ir.specs.WorkRows.{IsOperandRow, active_row, mask_row, result_row}
 use Rattle.micro_ir.specs.Pieces.{everywhere, clear, commit}
 use Rattle.micro_ir.specs.Kinds.{Realises, WritesBits, RealisesBits}
-use Rattle.micro_ir.proofs.OneElement.{hit, fires-hit, step-row, everywhere-here, clear-here, commit-here, commit-row, everywhere-fits, commit-fits}
-use Rattle.gen_logic.specs.Recipes.{has, once, of_one_row, of_rows, table_steps}
-use Rattle.gen_logic.specs.Values.{bitwise}
+use Rattle.micro_ir.proofs.OneElement.{hit, fires-hit, step-row, everywhere-here, clear-here, commit-here, commit-row, everywhere-fits, clear-fits, commit-fits}
+use Rattle.gen_logic.specs.declared.kinds.Logic.{Logic}
+use Rattle.gen_logic.specs.declared.kinds.Logic.TheVariants.{And, Or, Xor, Nand, Nor, Xnor, Andn, Orn, First, Second, Merge}
+use Rattle.gen_logic.specs.Recipes.{inputs_of, on_of, logic_steps, logic_counts, logic_length}
+use Rattle.gen_logic.specs.Values.{differs, takes_mask, truth_of, value_of}
 use Rattle.micro_ir.specs.Measures.{counts, Measured}
 
 -- ---- from one element to all, and from bits to numbers
@@ -61,137 +66,164 @@ made w to step value e register out result =
       kept = λ r j low other inside. commit-row w result_row to e2 r j other ∙ same r j (omega arith);
     }
 
--- a step of one row, after the clear
-pub one-here : (w row : ℕ) (on : List ℕ) (e : ℕ → ℕ → Bool) (j : ℕ) → j < w → row ≢ result_row
-    → step_on (everywhere w (row ∷ []) on result_row true) (step_on (clear w result_row) e) result_row j ≡ cond (hit on (e row j ∷ [])) true false
-one-here w row on e j inside other =
-    let e1 = step_on (clear w result_row) e in
-    everywhere-here w (row ∷ []) on result_row true e1 j inside
-    ∙ rw (clear-here w result_row e j inside, fires-hit (row ∷ []) on (λ r. e1 r j), step-row (clear w result_row) e row j other) refl
+-- ---- the tables of the kinds
 
--- one that looks for the result row, which is clear
-never-here : (w : ℕ) (on : List ℕ) (e : ℕ → ℕ → Bool) (j : ℕ) → j < w
-    → step_on (everywhere w (result_row ∷ []) on result_row true) (step_on (clear w result_row) e) result_row j ≡ cond (hit on (false ∷ [])) true false
-never-here w on e j inside =
-    let e1 = step_on (clear w result_row) e in
-    everywhere-here w (result_row ∷ []) on result_row true e1 j inside
-    ∙ rw (fires-hit (result_row ∷ []) on (λ r. e1 r j)) (rw (clear-here w result_row e j inside) refl)
+by_two : (f g : Bool → Bool → Bool) → f true true ≡ g true true → f true false ≡ g true false → f false true ≡ g false true → f false false ≡ g false false → (x y : Bool) → f x y ≡ g x y
+by_two f g p q r s true true = p
+by_two f g p q r s true false = q
+by_two f g p q r s false true = r
+by_two f g p q r s false false = s
 
-two-here : (w a b : ℕ) (on : List ℕ) (e : ℕ → ℕ → Bool) (j : ℕ) → j < w → a ≢ result_row → b ≢ result_row
-    → step_on (everywhere w (a ∷ b ∷ []) on result_row true) (step_on (clear w result_row) e) result_row j ≡ cond (hit on (e a j ∷ e b j ∷ [])) true false
-two-here w a b on e j inside first second =
-    let e1 = step_on (clear w result_row) e in
-    everywhere-here w (a ∷ b ∷ []) on result_row true e1 j inside
-    ∙ rw (clear-here w result_row e j inside, fires-hit (a ∷ b ∷ []) on (λ r. e1 r j), step-row (clear w result_row) e a j first, step-row (clear w result_row) e b j second) refl
+-- the values of a kind are found where its bit is 1
+pub table-truth : (kind : Logic) (a b : ℕ) (f : ℕ → Bool) → hit (on_of kind) (map f (inputs_of kind a b)) ≡ truth_of kind (f mask_row) (f a) (f b)
+table-truth And a b f = by_two (λ x y. hit (on_of And) (x ∷ y ∷ [])) (truth_of And false) refl refl refl refl (f a) (f b)
+table-truth Or a b f = by_two (λ x y. hit (on_of Or) (x ∷ y ∷ [])) (truth_of Or false) refl refl refl refl (f a) (f b)
+table-truth Xor a b f = by_two (λ x y. hit (on_of Xor) (x ∷ y ∷ [])) (truth_of Xor false) refl refl refl refl (f a) (f b)
+table-truth Nand a b f = by_two (λ x y. hit (on_of Nand) (x ∷ y ∷ [])) (truth_of Nand false) refl refl refl refl (f a) (f b)
+table-truth Nor a b f = by_two (λ x y. hit (on_of Nor) (x ∷ y ∷ [])) (truth_of Nor false) refl refl refl refl (f a) (f b)
+table-truth Xnor a b f = by_two (λ x y. hit (on_of Xnor) (x ∷ y ∷ [])) (truth_of Xnor false) refl refl refl refl (f a) (f b)
+table-truth Andn a b f = by_two (λ x y. hit (on_of Andn) (x ∷ y ∷ [])) (truth_of Andn false) refl refl refl refl (f a) (f b)
+table-truth Orn a b f = by_two (λ x y. hit (on_of Orn) (x ∷ y ∷ [])) (truth_of Orn false) refl refl refl refl (f a) (f b)
+table-truth First a b f = by_two (λ x y. hit (on_of First) (x ∷ [])) (truth_of First false) refl refl refl refl (f a) (f b)
+table-truth Second a b f = by_two (λ x y. hit (on_of Second) (y ∷ [])) (truth_of Second false) refl refl refl refl (f a) (f b)
+table-truth Merge a b f = merged (f mask_row)
+  where
+    merged : (m : Bool) → hit (on_of Merge) (m ∷ f a ∷ f b ∷ []) ≡ cond m (f b) (f a)
+    merged true = by_two (λ x y. hit (on_of Merge) (true ∷ x ∷ y ∷ [])) (λ x y. y) refl refl refl refl (f a) (f b)
+    merged false = by_two (λ x y. hit (on_of Merge) (false ∷ x ∷ y ∷ [])) (λ x y. x) refl refl refl refl (f a) (f b)
 
-pub as_is : (b : Bool) → cond b true false ≡ b
+-- a test of bits, by their four values
+by_bits : (f : ℕ → ℕ → Bool) (truth : Bool → Bool → Bool) → f 0 0 ≡ truth false false → f 0 1 ≡ truth false true → f 1 0 ≡ truth true false → f 1 1 ≡ truth true true
+    → (a b : ℕ) → a < 2 → b < 2 → f a b ≡ truth (eqb a 1) (eqb b 1)
+by_bits f truth p q r s zero zero u v = p
+by_bits f truth p q r s zero (suc zero) u v = q
+by_bits f truth p q r s (suc zero) zero u v = r
+by_bits f truth p q r s (suc zero) (suc zero) u v = s
+by_bits f truth p q r s (suc (suc a)) b u v = absurd (omega arith)
+by_bits f truth p q r s zero (suc (suc b)) u v = absurd (omega arith)
+by_bits f truth p q r s (suc zero) (suc (suc b)) u v = absurd (omega arith)
+
+-- the bits of the number that a kind makes
+value-bits : (kind : Logic) (w x y : ℕ) (m : Bool) (j : ℕ) → j < w → bit_of (value_of kind w x y m) j ≡ truth_of kind m (bit_of x j) (bit_of y j)
+value-bits And w x y m j below = rw (bit_at_and x y j) (by_bits (λ a b. eqb (min a b) 1) (λ x y. x && y) refl refl refl refl (bit_at x j) (bit_at y j) (bit_at-lt x j) (bit_at-lt y j))
+value-bits Or w x y m j below = rw (bit_at_or x y j) (by_bits (λ a b. eqb (max a b) 1) (λ x y. x || y) refl refl refl refl (bit_at x j) (bit_at y j) (bit_at-lt x j) (bit_at-lt y j))
+value-bits Xor w x y m j below = rw (bit_at_xor x y j) (by_bits (λ a b. eqb ((a + b) % 2) 1) differs refl refl refl refl (bit_at x j) (bit_at y j) (bit_at-lt x j) (bit_at-lt y j))
+value-bits Nand w x y m j below = bit-number w (λ i. not (bit_of x i && bit_of y i)) j below
+value-bits Nor w x y m j below = bit-number w (λ i. not (bit_of x i || bit_of y i)) j below
+value-bits Xnor w x y m j below = bit-number w (λ i. not (differs (bit_of x i) (bit_of y i))) j below
+value-bits Andn w x y m j below = bit-number w (λ i. bit_of x i && not (bit_of y i)) j below
+value-bits Orn w x y m j below = bit-number w (λ i. bit_of x i || not (bit_of y i)) j below
+value-bits First w x y m j below = refl
+value-bits Second w x y m j below = refl
+value-bits Merge w x y true j below = refl
+value-bits Merge w x y false j below = refl
+
+-- a kind asks nothing of the mask bit where the mask is no operand
+mask-asked : (kind : Logic) (reads : Bool) (m c x y : Bool) → (takes_mask kind || reads ≡ true → c ≡ m) → truth_of kind m x y ≡ truth_of kind c x y
+mask-asked Merge reads m c x y is = rw (is refl) refl
+mask-asked _ reads m c x y is = refl
+
+-- ---- the laws
+
+as_is : (b : Bool) → cond b true false ≡ b
 as_is true = refl
 as_is false = refl
 
--- ---- a table of two rows
+made-here : (kind : Logic) (w a b : ℕ) (e : ℕ → ℕ → Bool) (j : ℕ) → j < w → a ≢ result_row → b ≢ result_row
+    → step_on (everywhere w (inputs_of kind a b) (on_of kind) result_row true) (step_on (clear w result_row) e) result_row j ≡ truth_of kind (e mask_row j) (e a j) (e b j)
+made-here kind w a b e j inside first second =
+    let e1 = step_on (clear w result_row) e in
+    let rows = inputs_of kind a b in
+    let on = on_of kind in
+    let kept : (r : ℕ) → r ≢ result_row → e1 r j ≡ e r j = λ r other. step-row (clear w result_row) e r j other in
+    everywhere-here w rows on result_row true e1 j inside
+    ∙ ap (cond (fires rows on (λ r. e1 r j)) true) (clear-here w result_row e j inside)
+    ∙ as_is (fires rows on (λ r. e1 r j))
+    ∙ fires-hit rows on (λ r. e1 r j)
+    ∙ table-truth kind a b (λ r. e1 r j)
+    ∙ rw (kept mask_row (omega arith), kept a first, kept b second) refl
 
--- what one row finds that is both inputs
-abbrev pub found_by_one : List ℕ → Bool → Bool
-found_by_one on x = cond (has 0 on || has 3 on) (hit (map (once on) on) (x ∷ [])) (hit (map (λ t. 1) on) (false ∷ []))
+logic-fits : (kind : Logic) (w a b to : ℕ) → AllFit w (logic_steps kind w a b to)
+unfolding logic_steps
+logic-fits kind w a b to = (clear-fits w result_row, (everywhere-fits w (inputs_of kind a b) (on_of kind) result_row, commit-fits w result_row to (omega arith)))
 
--- The list is the table of a kind: for two rows, and for one row that is both.
-pub record IsTable (on : List ℕ) (truth : Bool → Bool → Bool) : Type 0 where
-  pub apart : (x y : Bool) → hit on (x ∷ y ∷ []) ≡ truth x y
-  pub alike : (x : Bool) → found_by_one on x ≡ truth x x
+-- the list of a kind realises it, bit by bit and as numbers
+pub logic-bits : (kind : Logic) (w a b to : ℕ) → a ≢ result_row → b ≢ result_row → to < 32
+    → RealisesBits w to (λ n. truth_of kind (n mask_row) (n a) (n b)) (micros w (logic_steps kind w a b to))
+unfolding logic_steps
+logic-bits kind w a b to first second register =
+    bits-lifted w to (λ n. truth_of kind (n mask_row) (n a) (n b)) (logic_steps kind w a b to) (logic-fits kind w a b to)
+    (λ e. made w to (everywhere w (inputs_of kind a b) (on_of kind) result_row true) (λ n. truth_of kind (n mask_row) (n a) (n b)) e register refl
+    (λ j inside. made-here kind w a b e j inside first second))
 
-one_row-here : (w : ℕ) (on : List ℕ) (row : ℕ) (e : ℕ → ℕ → Bool) (j : ℕ) → j < w → row ≢ result_row
-    → step_on (of_one_row w on row) (step_on (clear w result_row) e) result_row j ≡ found_by_one on (e row j)
-one_row-here w on row e j inside other =
-    elim (has 0 on || has 3 on) as (λ c. step_on (cond c (everywhere w (row ∷ []) (map (once on) on) result_row true) (everywhere w (result_row ∷ []) (map (λ t. 1) on) result_row true)) (step_on (clear w result_row) e) result_row j
-    ≡ cond c (hit (map (once on) on) (e row j ∷ [])) (hit (map (λ t. 1) on) (false ∷ []))) [
-      | true ↦ one-here w row (map (once on) on) e j inside other ∙ as_is (hit (map (once on) on) (e row j ∷ []))
-      | false ↦ never-here w (map (λ t. 1) on) e j inside ∙ as_is (hit (map (λ t. 1) on) (false ∷ []))
-    ]
-
-one_row-out : (w : ℕ) (on : List ℕ) (row : ℕ) → (of_one_row w on row).out ≡ result_row
-one_row-out w on row =
-    elim (has 0 on || has 3 on) as (λ c. let step : Step = cond c (everywhere w (row ∷ []) (map (once on) on) result_row true) (everywhere w (result_row ∷ []) (map (λ t. 1) on) result_row true) in step.out ≡ result_row) [
-      | true ↦ refl
-      | false ↦ refl
-    ]
-
-table-writes : (w : ℕ) (on : List ℕ) (truth : Bool → Bool → Bool) (a b to : ℕ) (e : ℕ → ℕ → Bool) → IsTable on truth → a ≢ result_row → b ≢ result_row → to < 32
-    → WritesBits w to (λ n. truth (n a) (n b)) e (steps_on (table_steps w on a b to) e)
-unfolding table_steps
-table-writes w on truth a b to e table first second register =
-    ⊎_elim
-    (λ (same : a ≡ b). rw (same, eq-eqb b b refl) (made w to (of_one_row w on b) (λ n. truth (n b) (n b)) e register (one_row-out w on b)
-    (λ j inside. one_row-here w on b e j inside second ∙ table.alike (e b j))))
-    (λ (apart : a ≢ b). rw (ne_eqb a b apart) (made w to (everywhere w (a ∷ b ∷ []) on result_row true) (λ n. truth (n a) (n b)) e register refl
-    (λ j inside. two-here w a b on e j inside first second ∙ as_is (hit on (e a j ∷ e b j ∷ [])) ∙ table.apart (e a j) (e b j))))
-    (cases_eq a b)
-
-of_rows-fits : (w : ℕ) (on : List ℕ) (a b : ℕ) → Fits w (of_rows w on a b)
-of_rows-fits w on a b = chosen (eqb a b) (has 0 on || has 3 on)
-  where
-    chosen : (c d : Bool) → Fits w (cond c (cond d (everywhere w (a ∷ []) (map (once on) on) result_row true) (everywhere w (result_row ∷ []) (map (λ t. 1) on) result_row true)) (everywhere w (a ∷ b ∷ []) on result_row true))
-    chosen true true = everywhere-fits w (a ∷ []) (map (once on) on) result_row true
-    chosen true false = everywhere-fits w (result_row ∷ []) (map (λ t. 1) on) result_row true
-    chosen false d = everywhere-fits w (a ∷ b ∷ []) on result_row true
-
-table-fits : (w : ℕ) (on : List ℕ) (a b to : ℕ) → AllFit w (table_steps w on a b to)
-unfolding table_steps
-table-fits w on a b to = (everywhere-fits w [] (0 ∷ []) result_row false, (of_rows-fits w on a b, commit-fits w result_row to))
-
--- the list of a table realises its kind
-pub table-bits : (on : List ℕ) (truth : Bool → Bool → Bool) → IsTable on truth → (w a b to : ℕ) → a ≢ result_row → b ≢ result_row → to < 32
-    → RealisesBits w to (λ n. truth (n a) (n b)) (micros w (table_steps w on a b to))
-table-bits on truth table w a b to first second register =
-    bits-lifted w to (λ n. truth (n a) (n b)) (table_steps w on a b to) (table-fits w on a b to) (λ e. table-writes w on truth a b to e table first second register)
-
--- as numbers of the bits below w
-table-below : (on : List ℕ) (truth : Bool → Bool → Bool) (w : ℕ) (value : ℕ → ℕ → ℕ) → IsTable on truth → ((x y j : ℕ) → j < w → bit_of (value x y) j ≡ truth (bit_of x j) (bit_of y j))
-    → (a b to : ℕ) (reads : Bool) → a ≢ result_row → b ≢ result_row → to < 32
-    → Realises w to reads (λ n m. value (n a) (n b)) (micros w (table_steps w on a b to))
-table-below on truth w value table bits a b to reads first second register =
-    numbers-of-bits w to reads (λ n. truth (n a) (n b)) (λ n m. value (n a) (n b)) (micros w (table_steps w on a b to))
-    (λ n m j below mask. bits (n a) (n b) j below) (λ f g same. rw (same a, same b) refl) (table-bits on truth table w a b to first second register)
-
--- as numbers that do not depend on the width
-pub table-numbers : (on : List ℕ) (truth : Bool → Bool → Bool) (value : ℕ → ℕ → ℕ) → IsTable on truth → ((x y j : ℕ) → bit_of (value x y) j ≡ truth (bit_of x j) (bit_of y j))
-    → (w a b to : ℕ) (reads : Bool) → a ≢ result_row → b ≢ result_row → to < 32
-    → Realises w to reads (λ n m. value (n a) (n b)) (micros w (table_steps w on a b to))
-table-numbers on truth value table bits w a b to reads first second register =
-    table-below on truth w value table (λ x y j below. bits x y j) a b to reads first second register
-
--- as the number of the truths
-pub table-bitwise : (on : List ℕ) (truth : Bool → Bool → Bool) → IsTable on truth → (w a b to : ℕ) (reads : Bool) → a ≢ result_row → b ≢ result_row → to < 32
-    → Realises w to reads (λ n m. bitwise truth w (n a) (n b)) (micros w (table_steps w on a b to))
-table-bitwise on truth table w a b to reads first second register =
-    table-below on truth w (bitwise truth w) table (λ x y j below. bit-number w (λ i. truth (bit_of x i) (bit_of y i)) j below) a b to reads first second register
+pub logic-numbers : (kind : Logic) (w a b to : ℕ) (reads : Bool) → a ≢ result_row → b ≢ result_row → to < 32
+    → Realises w to (takes_mask kind || reads) (λ n m. value_of kind w (n a) (n b) m) (micros w (logic_steps kind w a b to))
+logic-numbers kind w a b to reads first second register =
+    numbers-of-bits w to (takes_mask kind || reads) (λ n. truth_of kind (n mask_row) (n a) (n b)) (λ n m. value_of kind w (n a) (n b) m) (micros w (logic_steps kind w a b to))
+    (λ n m j below mask. value-bits kind w (n a) (n b) m j below ∙ mask-asked kind reads m (bit_of (n mask_row) j) (bit_of (n a) j) (bit_of (n b) j) mask)
+    (λ f g same. rw (same mask_row, same a, same b) refl) (logic-bits kind w a b to first second register)
 
 -- ---- what lists cost
 
--- a list with one step of so many values between a clear and a commit
-pub made-measured : (w to : ℕ) (step : Step) (t : ℕ) (ts : List ℕ) → step.on ≡ t ∷ ts → step.times ≡ 0 → step.out ≡ result_row → to < 32
-    → Measured (counts (length (t ∷ ts) + 3) 4 0) (length (t ∷ ts) + 3 + 4) (micros w (clear w result_row ∷ step ∷ commit w result_row to))
-made-measured w to step t ts on times out register =
-    let steps : List Step = clear w result_row ∷ step ∷ commit w result_row to in
+-- a list with one step of some values between a clear and a commit
+made-measured : (w to : ℕ) (rows on : List ℕ) → 0 < length on → to < 32
+    → Measured (counts (length on + 3) 4 0) (length on + 7) (micros w (clear w result_row ∷ everywhere w rows on result_row true ∷ commit w result_row to))
+made-measured w to rows [] some register = absurd (omega arith)
+made-measured w to rows (t ∷ ts) some register =
+    let steps : List Step = clear w result_row ∷ everywhere w rows (t ∷ ts) result_row true ∷ commit w result_row to in
     record {
-      cost = tally-micros w steps ∙ rw (on, times) (λ i. record { searches = (let z : 1 + (length (t ∷ ts) + (1 + (1 + 0))) ≡ length (t ∷ ts) + 3 = omega arith in z i); updates = 4; passes = 0 });
-      count = length-micros w steps ∙ rw (on, times) (omega arith);
-      range = λ columns. AllInRange-micros columns w steps (omega arith, omega arith, (rw out (omega arith), rw times (omega arith), (omega arith, omega arith, (omega arith, omega arith, tt))));
+      cost = tally-micros w steps ∙ (λ i. record { searches = (let z : 1 + (length (t ∷ ts) + (1 + (1 + 0))) ≡ length (t ∷ ts) + 3 = omega arith in z i); updates = 4; passes = 0 });
+      count = length-micros w steps ∙ omega arith;
+      range = λ columns. AllInRange-micros columns w steps (omega arith, omega arith, (omega arith, omega arith, (omega arith, omega arith, (omega arith, omega arith, tt))));
     }
 
-pub table-measured : (t : ℕ) (ts : List ℕ) (w a b to : ℕ) → to < 32 → Measured (counts (length (t ∷ ts) + 3) 4 0) (length (t ∷ ts) + 3 + 4) (micros w (table_steps w (t ∷ ts) a b to))
-unfolding table_steps
-table-measured t ts w a b to register = chosen (eqb a b) (has 0 on || has 3 on)
-  where
-    on : List ℕ
-    on = t ∷ ts
+pub some-values : (kind : Logic) → 0 < length (on_of kind)
+some-values And = omega arith
+some-values Or = omega arith
+some-values Xor = omega arith
+some-values Nand = omega arith
+some-values Nor = omega arith
+some-values Xnor = omega arith
+some-values Andn = omega arith
+some-values Orn = omega arith
+some-values First = omega arith
+some-values Second = omega arith
+some-values Merge = omega arith
 
-    long : (f : ℕ → ℕ) → length (map f on) + 3 ≡ length on + 3
-    long f = ap (λ n. n + 3) (length-map on f)
+pub logic-measured : (kind : Logic) (w a b to : ℕ) → to < 32 → Measured (logic_counts kind) (logic_length kind) (micros w (logic_steps kind w a b to))
+unfolding logic_steps
+logic-measured kind w a b to register = made-measured w to (inputs_of kind a b) (on_of kind) (some-values kind) register
 
-    carried : (m n : ℕ) (ops : List MicroOp) → m ≡ n → Measured (counts m 4 0) (m + 4) ops → Measured (counts n 4 0) (n + 4) ops
-    carried m n ops e x = subst (λ z. Measured (counts z 4 0) (z + 4) ops) e x
+-- ---- as they are written
 
-    chosen : (c d : Bool) → Measured (counts (length on + 3) 4 0) (length on + 3 + 4) (micros w (clear w result_row ∷ cond c (cond d (everywhere w (a ∷ []) (map (once on) on) result_row true) (everywhere w (result_row ∷ []) (map (λ t. 1) on) result_row true)) (everywhere w (a ∷ b ∷ []) on result_row true) ∷ commit w result_row to))
-    chosen true true = carried _ _ _ (long (once on)) (made-measured w to (everywhere w (a ∷ []) (map (once on) on) result_row true) (once on t) (map (once on) ts) refl refl refl register)
-    chosen true false = carried _ _ _ (long (λ t. 1)) (made-measured w to (everywhere w (result_row ∷ []) (map (λ t. 1) on) result_row true) 1 (map (λ t. 1) ts) refl refl refl register)
-    chosen false d = made-measured w to (everywhere w (a ∷ b ∷ []) on result_row true) t ts refl refl refl register
+-- an operand does not stand in the row that results are made in
+pub not-result : (r : ℕ) → IsOperandRow r → r ≢ result_row
+not-result r is = ⊎_elim (λ (l : r < 32). let g : r ≢ 36 = omega arith in g) (λ q. ⊎_elim (λ (e : r ≡ 33). let g : r ≢ 36 = omega arith in g) (λ q. ⊎_elim (λ (e : r ≡ 34). let g : r ≢ 36 = omega arith in g) (λ q. ⊎_elim (λ (e : r ≡ 55). let g : r ≢ 36 = omega arith in g) (λ (e : r ≡ 56). let g : r ≢ 36 = omega arith in g) q) q) q) is
+
+-- the rows that a kind reads are rows
+pub operands-rows : (kind : Logic) (a b : ℕ) → a < 64 → b < 64 → are_rows (inputs_of kind a b) ≡ true
+operands-rows First a b p q = rw (lt-ltb a 64 p) refl
+operands-rows Second a b p q = rw (lt-ltb b 64 q) refl
+operands-rows _ a b p q = rw (lt-ltb a 64 p, lt-ltb b 64 q) refl
+
+pub operand-row : (r : ℕ) → IsOperandRow r → r < 64
+operand-row r is = ⊎_elim (λ (l : r < 32). let g : r < 64 = omega arith in g) (λ q. ⊎_elim (λ (e : r ≡ 33). let g : r < 64 = omega arith in g) (λ q. ⊎_elim (λ (e : r ≡ 34). let g : r < 64 = omega arith in g) (λ q. ⊎_elim (λ (e : r ≡ 55). let g : r < 64 = omega arith in g) (λ (e : r ≡ 56). let g : r < 64 = omega arith in g) q) q) q) is
+
+pub logic-parts : (kind : Logic) (w a b to : ℕ)
+    → micros w (logic_steps kind w a b to) ≡ micro w (clear w result_row) ++ (micro w (everywhere w (inputs_of kind a b) (on_of kind) result_row true) ++ micros w (commit w result_row to))
+unfolding micros logic_steps
+logic-parts kind w a b to = refl
+
+-- no list of a kind is longer
+pub length-few : (kind : Logic) → logic_length kind ≤ 11
+length-few And = omega arith
+length-few Or = omega arith
+length-few Xor = omega arith
+length-few Nand = omega arith
+length-few Nor = omega arith
+length-few Xnor = omega arith
+length-few Andn = omega arith
+length-few Orn = omega arith
+length-few First = omega arith
+length-few Second = omega arith
+length-few Merge = omega arith

@@ -1,3 +1,4 @@
--- The lists of the kinds that act bit by bit, and their values.
+-- The lists of the kinds that act bit by bit, their values, and that the lists realise them.
 pub mod Recipes
 pub mod Values
+pub mod Laws

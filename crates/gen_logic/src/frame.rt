@@ -1,4 +1,4 @@
-// The lists of the frame: the scalar in every element, and ones in the free elements.
+// The lists of the frame: the scalar in every element, and ones in the agnostic elements.
 ghost use Rattle.std.specs.Prelude.{◌≡◌, ℕ, ◌+◌, ◌<◌, ◌≤◌, cond, ◌&&◌, true, false, eqb, [], ◌∷◌, ◌++◌};
 ghost use lib.Dec.{ltb};
 ghost use Rattle.bit_laws.specs.Numbers.{bit_of};
@@ -12,13 +12,7 @@ ghost use Rattle.micro_ir.specs.Measures.{counts, Measured};
 
 use bit_laws::Width;
 use cam_chain::Keys;
-use micro_ir::{MicroBuf, MicroOp, Place, emit_clear, emit_everywhere};
-
-// The row of the scalar operand.
-const SCALAR_ROW: u8 = 34;
-
-// The row that holds ones in the free elements.
-const FREE_ROW: u8 = 52;
+use micro_ir::{FREE_ROW, MicroBuf, MicroOp, Place, SCALAR_ROW, emit_clear, emit_everywhere};
 
 // The value of one row whose bit is 1.
 const ONES_ON: [u8; 1] = [1];
@@ -26,7 +20,7 @@ const ONES_ON: [u8; 1] = [1];
 // How many subarrays there are.
 const SUBARRAYS: u32 = 32;
 
-/// The subarrays that hold the places of an element where a scalar has ones.
+// The subarrays that hold the places of an element where a scalar has ones.
 fn ones_of<W: Width>(scalar: u32) -> u32
     ensures { result ≡ subs_of W.BITS (λ j. ltb j W.BITS && bit_of scalar j) }
 {
@@ -40,11 +34,11 @@ fn ones_of<W: Width>(scalar: u32) -> u32
     subs
 }
 
-/// Appends what puts ones into the scalar row in the subarrays.
+// Appends what puts ones into the scalar row in the subarrays.
 fn push_ones(buf: &mut MicroBuf, subs: u32)
     requires { 2 ≤ buf.old.spare }
     ensures ops { buf.new.ops
-        ≡ buf.old.ops ++ (Search subs [] false ∷ Update subs 34 true ∷ []) }
+        ≡ buf.old.ops ++ (Search subs [] false ∷ Update subs scalar_row true ∷ []) }
     ensures spare { buf.new.spare + 2 ≡ buf.old.spare }
 {
     let Some(keys) = Keys::new(&[]) else {
@@ -78,7 +72,7 @@ pub fn emit_splat<W: Width>(buf: &mut MicroBuf, at: &Place, scalar: u32)
 }
 
 /// Appends what puts ones into the elements of register `at.to` that are free: of the tail, or
-/// masked off, where they need not stay (vector extension 1.0, section 3.4.3). The free elements
+/// masked off, where they need not stay (vector extension 1.0, section 3.4.3). The agnostic elements
 /// stand in their row. No other row changes. There are no errors.
 pub fn emit_fill<W: Width>(buf: &mut MicroBuf, at: &Place)
     requires to { at.now.to < 32 }

@@ -2,12 +2,13 @@
 //! of micro-operations, and its contract says what the list does, whatever the width of elements.
 #![tactic(auto)]
 
+mod calls;
 mod frame;
-mod moves;
-mod table_kinds;
+mod kinds;
 
-pub use frame::{emit_fill, emit_splat};
-pub use moves::{emit_merge, emit_move};
-pub use table_kinds::{
-    emit_and, emit_andn, emit_nand, emit_nor, emit_or, emit_orn, emit_xnor, emit_xor,
+pub use calls::{
+    emit_and, emit_andn, emit_merge, emit_move, emit_nand, emit_nor, emit_or, emit_orn, emit_xnor,
+    emit_xor,
 };
+pub use frame::{emit_fill, emit_splat};
+pub use kinds::{Logic, emit_logic, logic_length_law};

@@ -9,14 +9,14 @@ use Rattle.guest_env.specs.declared.answers.EnvFlow.TheVariants.{Back, Exit as E
 use Rattle.guest_env.specs.Inputs.{Takes}
 use Rattle.guest_env.specs.Answers.{flow_of}
 
--- an input that tells its bytes is left with those behind
-pub left-told : (most : ℕ) (left left' : Option (List ℕ)) (taken bytes : List ℕ) → Takes most left left' taken → left ≡ Some bytes → left' ≡ Some (drop most bytes)
-left-told most None left' taken bytes takes is = cc
-left-told most (Some xs) None taken bytes takes is = absurd takes.consumed
-left-told most (Some xs) (Some ys) taken bytes takes is =
+-- an input whose bytes are known is left with those after
+pub left-known : (most : ℕ) (left left' : Option (List ℕ)) (taken bytes : List ℕ) → Takes most left left' taken → left ≡ Some bytes → left' ≡ Some (drop most bytes)
+left-known most None left' taken bytes takes is = cc
+left-known most (Some xs) None taken bytes takes is = absurd takes.consumed
+left-known most (Some xs) (Some ys) taken bytes takes is =
     let same : xs ≡ bytes = cc in
     let parts : taken ++ ys ≡ taken ++ drop most bytes =
-    sym takes.consumed ∙ same ∙ sym (take-append-drop most bytes) ∙ ap (λ (zs : List ℕ). zs ++ drop most bytes) (sym (takes.told bytes is)) in
+    sym takes.consumed ∙ same ∙ sym (take-append-drop most bytes) ∙ ap (λ (zs : List ℕ). zs ++ drop most bytes) (sym (takes.known bytes is)) in
     ap Some (append_cancel_left taken ys (drop most bytes) parts)
 
 -- a read and a write, by their numbers
@@ -44,7 +44,7 @@ flow-exit Close regs code is = cc
 flow-exit Seek regs code is = cc
 flow-exit Unknown regs code is = cc
 
--- and a call behind which the guest goes on is none
+-- and a call after which the guest goes on is none
 pub flow-back : (call : Call) (regs : List ℕ) → Back ≡ flow_of call regs → call ≢ Exit
 unfolding flow_of
 flow-back Exit regs is = cc

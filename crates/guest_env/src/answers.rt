@@ -4,7 +4,7 @@ use thiserror::Error;
 /// How a call ends.
 #[derive(Clone, Copy, Debug, PartialEq, Eq)]
 pub enum EnvFlow {
-    /// The guest goes on behind the call.
+    /// The guest goes on after the call.
     Back,
     /// The guest exited with this code.
     Exit(u8),

@@ -1,11 +1,8 @@
 // The calls of a guest.
-ghost use Rattle.std.specs.Prelude.{◌≡◌, ◌≤◌, ℕ, List, [], OnOk, OnErr, IfOk, IsErrOf};
-ghost use Rattle.std.specs.Io.KnownBytes.{Appends};
-ghost use Rattle.cape_io.specs.Devices.{PutsFront};
-ghost use Rattle.rvv_meaning.specs.Calls.{named_call, first, asked_by, put_by, answer_of, memory_after, break_after};
-ghost use Rattle.guest_env.specs.Inputs.{Takes};
-ghost use Rattle.guest_env.specs.Outputs.{bytes_out, bytes_err};
-ghost use Rattle.guest_env.specs.Answers.{flow_of, IsAnswered, FailsReading, FailsWriting};
+ghost use Rattle.std.specs.Prelude.{◌≡◌, ◌≢◌, [], is_ok, OnOk, OnErr, IfOk, IsErrOf};
+ghost use Rattle.rvv_meaning.specs.Calls.{named_call, first, second, asked_by, put_by, answer_of, memory_after, break_after};
+ghost use Rattle.guest_env.specs.Outputs.{bytes_out, bytes_err, gained_out, gained_err, IsWritten};
+ghost use Rattle.guest_env.specs.Answers.{flow_of, asked, HasAnswer, IsAnswered, FailsReading, FailsWriting};
 
 use crate::answers::{EnvFault, EnvFlow, NO_CALL};
 use crate::descriptors::{close, seek};
@@ -48,6 +45,26 @@ fn flow_after(call: Call, regs: &Regs) -> EnvFlow
     }
 }
 
+// What a call answers that has nothing to do with a device, after all that it does but to the registers.
+#[tactic(auto, unfolding(rvv_meaning::specs::Calls::answer_of, rvv_meaning::specs::Calls::memory_after))]
+fn answer_alone(call: Call, regs: &Regs, mem: &mut Mem) -> u32
+    requires no_read { call ≢ Call.Read }
+    requires no_write { call ≢ Call.Write }
+    ensures answer { result ≡ answer_of call regs.now mem.old [] }
+    ensures memory { mem.new ≡ memory_after call regs.now mem.old [] }
+{
+    let first = regs.get(FIRST);
+    match call {
+        Call::Read | Call::Write => unreachable!(),
+        // An exit leaves the register of the answer as it is.
+        Call::Exit => first,
+        Call::Break => move_break(mem, first),
+        Call::Close => close(first),
+        Call::Seek => seek(first),
+        Call::Unknown => NO_CALL,
+    }
+}
+
 // What a call answers, after all that it does but to the registers.
 fn answer<S: Source, O: Sink, E: Sink>(
     call: Call,
@@ -59,22 +76,12 @@ fn answer<S: Source, O: Sink, E: Sink>(
     merged: bool,
 ) -> Result<u32, EnvFault>
     requires { call ≡ named_call regs.now }
-    ensures answered { IfOk result (λ answer. (taken : List ℕ)
-        × Takes (asked_by call regs.now mem.old) (S.left input.old) (S.left input.new) taken
-        × (answer ≡ answer_of call regs.now mem.old taken)
-        × (mem.new ≡ memory_after call regs.now mem.old taken)) }
-    ensures gained_out { OnOk result (Appends (O.held out.old) (O.held out.new) (bytes_out merged (first regs.now) (put_by call regs.now mem.old))) }
-    ensures gained_err { OnOk result (Appends (E.held err.old) (E.held err.new) (bytes_err merged (first regs.now) (put_by call regs.now mem.old))) }
-    ensures front_out { OnErr result (PutsFront (O.held out.old) (O.held out.new) (bytes_out merged (first regs.now) (put_by call regs.now mem.old))) }
-    ensures front_err { OnErr result (PutsFront (E.held err.old) (E.held err.new) (bytes_err merged (first regs.now) (put_by call regs.now mem.old))) }
-    ensures read_fault { IsErrOf result EnvFault.ReadFault → FailsReading regs.now mem.old mem.new (S.left input.old) (S.left input.new) (S.faults input.old) (S.faults input.new) }
-    ensures write_fault { IsErrOf result EnvFault.WriteFault → FailsWriting merged regs.now mem.old mem.new (O.faults out.old) (O.faults out.new) (E.faults err.old) (E.faults err.new) }
+    ensures answered { IfOk result (λ answer. HasAnswer S.Source call regs.now mem.old mem.new input.old input.new answer) }
+    ensures to_out { IsWritten O.Sink (second regs.now) (bytes_out merged (first regs.now) (put_by call regs.now mem.old)) (is_ok result) out.old out.new }
+    ensures to_err { IsWritten E.Sink (second regs.now) (bytes_err merged (first regs.now) (put_by call regs.now mem.old)) (is_ok result) err.old err.new }
+    ensures read_fault { IsErrOf result EnvFault.ReadFault → FailsReading S.Source regs.now mem.old mem.new input.old input.new }
+    ensures write_fault { IsErrOf result EnvFault.WriteFault → FailsWriting O.Sink E.Sink merged regs.now mem.old mem.new out.old out.new err.old err.new }
     ensures input_stays { asked_by call regs.now mem.old ≡ 0 → input.new ≡ input.old }
-    ensures out_stays { bytes_out merged (first regs.now) (put_by call regs.now mem.old) ≡ [] → out.new ≡ out.old }
-    ensures err_stays { bytes_err merged (first regs.now) (put_by call regs.now mem.old) ≡ [] → err.new ≡ err.old }
-    ensures later_input { S.faults input.old ≤ S.faults input.new }
-    ensures later_out { O.faults out.old ≤ O.faults out.new }
-    ensures later_err { E.faults err.old ≤ E.faults err.new }
 {
     let first = regs.get(FIRST);
     let second = regs.get(SECOND);
@@ -88,12 +95,7 @@ fn answer<S: Source, O: Sink, E: Sink>(
             Ok(answer) => Ok(answer),
             Err(Failed) => Err(EnvFault::WriteFault),
         },
-        // An exit leaves the register of the answer as it is.
-        Call::Exit => Ok(first),
-        Call::Break => Ok(move_break(mem, first)),
-        Call::Close => Ok(close(first)),
-        Call::Seek => Ok(seek(first)),
-        Call::Unknown => Ok(NO_CALL),
+        _ => Ok(answer_alone(call, regs, mem)),
     }
 }
 
@@ -103,7 +105,7 @@ fn answer<S: Source, O: Sink, E: Sink>(
 /// - 63, read(descriptor, address, count): -9 (EBADF) unless the descriptor is 0; then -14 (EFAULT) where the range is not
 ///   wholly writable; else the smaller of `count` and the input left, whose bytes are taken and stored.
 /// - 64, write(descriptor, address, count): -9 unless the descriptor is 1 or 2; then -14 where the range is not wholly
-///   readable; else `count`, after the bytes were put, one piece for each page that the range meets, in the range's own
+///   readable; else `count`, after the bytes were written, one piece for each page that the range meets, in the range's own
 ///   order.
 /// - 93 and 94, exit(code): the guest ends with the low eight bits of the code. The registers stay.
 /// - 214, brk(address): the break becomes the address, where it lies in the heap; the answer is the break after it.
@@ -112,7 +114,7 @@ fn answer<S: Source, O: Sink, E: Sink>(
 /// - Any other number: -38 (ENOSYS).
 ///
 /// A range wraps modulo 2^32, and one of no bytes is wholly readable and writable. A call that is refused moves nothing.
-/// `merged` tells where the bytes of a write go: those on 1 to `out` and those on 2 to `err`, or both to `err` in their
+/// `merged` says where the bytes of a write go: those on 1 to `out` and those on 2 to `err`, or both to `err` in their
 /// order. At a fault the registers are as before; a read's bytes that came before it stand in memory, and a write's in the
 /// sink.
 pub fn call<S: Source, O: Sink, E: Sink>(
@@ -124,25 +126,20 @@ pub fn call<S: Source, O: Sink, E: Sink>(
     merged: bool,
 ) -> Result<EnvFlow, EnvFault>
     // What a call that went leaves, and how the guest goes on.
-    ensures answered { OnOk result ((taken : List ℕ) × IsAnswered (named_call regs.old) regs.old regs.new mem.old mem.new (S.left input.old) (S.left input.new) taken) }
+    ensures answered { OnOk result (IsAnswered S.Source regs.old regs.new mem.old mem.new input.old input.new) }
     ensures flow { IfOk result (λ flow. flow ≡ flow_of (named_call regs.old) regs.old) }
-    ensures gained_out { OnOk result (Appends (O.held out.old) (O.held out.new) (bytes_out merged (first regs.old) (put_by (named_call regs.old) regs.old mem.old))) }
-    ensures gained_err { OnOk result (Appends (E.held err.old) (E.held err.new) (bytes_err merged (first regs.old) (put_by (named_call regs.old) regs.old mem.old))) }
+
+    // What it writes, wholly where it went, and in pieces.
+    ensures to_out { IsWritten O.Sink (second regs.old) (gained_out merged regs.old mem.old) (is_ok result) out.old out.new }
+    ensures to_err { IsWritten E.Sink (second regs.old) (gained_err merged regs.old mem.old) (is_ok result) err.old err.new }
 
     // What stands where a device failed.
     ensures kept { OnErr result (regs.new ≡ regs.old) }
-    ensures front_out { OnErr result (PutsFront (O.held out.old) (O.held out.new) (bytes_out merged (first regs.old) (put_by (named_call regs.old) regs.old mem.old))) }
-    ensures front_err { OnErr result (PutsFront (E.held err.old) (E.held err.new) (bytes_err merged (first regs.old) (put_by (named_call regs.old) regs.old mem.old))) }
-    ensures read_fault { IsErrOf result EnvFault.ReadFault → FailsReading regs.old mem.old mem.new (S.left input.old) (S.left input.new) (S.faults input.old) (S.faults input.new) }
-    ensures write_fault { IsErrOf result EnvFault.WriteFault → FailsWriting merged regs.old mem.old mem.new (O.faults out.old) (O.faults out.new) (E.faults err.old) (E.faults err.new) }
+    ensures read_fault { IsErrOf result EnvFault.ReadFault → FailsReading S.Source regs.old mem.old mem.new input.old input.new }
+    ensures write_fault { IsErrOf result EnvFault.WriteFault → FailsWriting O.Sink E.Sink merged regs.old mem.old mem.new out.old out.new err.old err.new }
 
-    // A device that a call has nothing to do with stays as it was, and no count of faults falls.
-    ensures input_stays { asked_by (named_call regs.old) regs.old mem.old ≡ 0 → input.new ≡ input.old }
-    ensures out_stays { bytes_out merged (first regs.old) (put_by (named_call regs.old) regs.old mem.old) ≡ [] → out.new ≡ out.old }
-    ensures err_stays { bytes_err merged (first regs.old) (put_by (named_call regs.old) regs.old mem.old) ≡ [] → err.new ≡ err.old }
-    ensures later_input { S.faults input.old ≤ S.faults input.new }
-    ensures later_out { O.faults out.old ≤ O.faults out.new }
-    ensures later_err { E.faults err.old ≤ E.faults err.new }
+    // An input that is not asked stays as it was.
+    ensures input_stays { asked regs.old mem.old ≡ 0 → input.new ≡ input.old }
 {
     let call = call_of(regs.get(NUMBER));
     let flow = flow_after(call, regs);

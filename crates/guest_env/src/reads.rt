@@ -2,9 +2,8 @@
 ghost use Rattle.std.specs.Prelude.{◌≡◌, ◌<◌, ◌≤◌, ℕ, List, true, length, OnOk, OnErr, IfOk};
 ghost use Rattle.std.specs.Io.KnownBytes.{Consumes, IsAtEnd, Keeps};
 ghost use Rattle.cape_io.specs.Devices.{Rose};
-ghost use Rattle.guest_mem.specs.Pages.{written};
-ghost use Rattle.guest_env.specs.Inputs.{Takes};
-ghost use Rattle.rvv_meaning.specs.Calls.{is_input as input_of, is_writable, read_answer, read_count};
+ghost use Rattle.guest_env.specs.Inputs.{stored_in, IsRead, Takes};
+ghost use Rattle.rvv_meaning.specs.Calls.{is_input as input_of, is_writable, read_count};
 
 use crate::answers::{BAD_ADDRESS, BAD_DESCRIPTOR};
 use crate::descriptors::is_input;
@@ -29,13 +28,13 @@ fn take_piece<S: Source>(
     ensures moved { IfOk result (λ n. (piece : List ℕ)
         × (length piece ≡ n)
         × Consumes (S.left input.old) (S.left input.new) piece
-        × (mem.new ≡ record mem.old { pages = written mem.old.pages at piece })) }
+        × (mem.new ≡ stored_in mem.old at piece)) }
     ensures bound { IfOk result (λ n. n ≤ most) }
     ensures ended { IfOk result (λ n. n ≡ 0 → IsAtEnd (S.left input.new)) }
     ensures kept { OnErr result (Keeps (S.left input.old) (S.left input.new)) }
     ensures unchanged { OnErr result (mem.new ≡ mem.old) }
+    ensures quiet { OnOk result (S.faults input.new ≡ S.faults input.old) }
     ensures rose { OnErr result (Rose (S.faults input.old) (S.faults input.new)) }
-    ensures later { S.faults input.old ≤ S.faults input.new }
 {
     let len = buf.len().min(most as usize);
     let piece = &mut buf[..len];
@@ -49,14 +48,14 @@ fn fill<S: Source>(mem: &mut Mem, address: u32, count: u32, input: &mut S) -> Re
     ensures filled { IfOk result (λ n. (taken : List ℕ)
         × Takes count (S.left input.old) (S.left input.new) taken
         × (n ≡ length taken)
-        × (mem.new ≡ record mem.old { pages = written mem.old.pages address taken })) }
+        × (mem.new ≡ stored_in mem.old address taken)) }
     ensures stands { OnErr result ((taken : List ℕ)
         × (length taken < count)
         × Consumes (S.left input.old) (S.left input.new) taken
-        × (mem.new ≡ record mem.old { pages = written mem.old.pages address taken })) }
+        × (mem.new ≡ stored_in mem.old address taken)) }
+    ensures quiet { OnOk result (S.faults input.new ≡ S.faults input.old) }
     ensures rose { OnErr result (Rose (S.faults input.old) (S.faults input.new)) }
     ensures stays { count ≡ 0 → input.new ≡ input.old }
-    ensures later { S.faults input.old ≤ S.faults input.new }
 {
     let mut buf = [0u8; PIECE];
     let mut at = address;
@@ -81,19 +80,16 @@ pub(crate) fn read<S: Source>(
     count: u32,
     input: &mut S,
 ) -> Result<u32, Failed>
-    ensures answered { IfOk result (λ answer. (taken : List ℕ)
-        × Takes (read_count mem.old.pages descriptor address count) (S.left input.old) (S.left input.new) taken
-        × (answer ≡ read_answer mem.old.pages descriptor address count taken)
-        × (mem.new ≡ record mem.old { pages = written mem.old.pages address taken })) }
+    ensures answered { IfOk result (λ answer. IsRead S.Source descriptor address count mem.old mem.new input.old input.new answer) }
     ensures stands { OnErr result ((taken : List ℕ)
         × (length taken < count)
         × Consumes (S.left input.old) (S.left input.new) taken
-        × (mem.new ≡ record mem.old { pages = written mem.old.pages address taken })) }
+        × (mem.new ≡ stored_in mem.old address taken)) }
     ensures allowed { OnErr result (input_of descriptor ≡ true) }
     ensures inside { OnErr result (is_writable mem.old.pages address count ≡ true) }
+    ensures quiet { OnOk result (S.faults input.new ≡ S.faults input.old) }
     ensures rose { OnErr result (Rose (S.faults input.old) (S.faults input.new)) }
     ensures stays { read_count mem.old.pages descriptor address count ≡ 0 → input.new ≡ input.old }
-    ensures later { S.faults input.old ≤ S.faults input.new }
 {
     if !is_input(descriptor) {
         return Ok(BAD_DESCRIPTOR);

@@ -1,29 +1,22 @@
 // The write call of a guest.
-ghost use Rattle.std.specs.Prelude.{◌≡◌, ◌<◌, ◌≤◌, [], true, OnOk, OnErr, IfOk};
-ghost use Rattle.std.specs.Io.KnownBytes.{Appends};
-ghost use Rattle.cape_io.specs.Devices.{PutsFront, Rose};
+ghost use Rattle.std.specs.Prelude.{◌≡◌, ◌<◌, true, is_ok, OnErr, IfOk};
+ghost use Rattle.cape_io.specs.Devices.{Rose};
 ghost use Rattle.guest_mem.specs.Ranges.{range_bytes};
 ghost use Rattle.rvv_meaning.specs.Calls.{is_output as output, is_readable, write_answer, write_bytes};
-ghost use Rattle.guest_env.specs.Outputs.{bytes_out, bytes_err, IsFaultOf};
+ghost use Rattle.guest_env.specs.Outputs.{bytes_out, bytes_err, IsWritten, FailsOf};
 
 use crate::answers::{BAD_ADDRESS, BAD_DESCRIPTOR};
 use crate::descriptors::{ERROR_OUTPUT, is_output};
 use crate::ranges::is_allowed;
 use cape_io::{Failed, Sink};
-use guest_mem::{Mem, Perms};
+use guest_mem::{Mem, PAGE_SIZE, Perms};
 
-// The bytes of a page.
-const PAGE_SIZE: u32 = 4096;
-
-// Puts the bytes of a range, a piece for each page that it meets, in the range's own order.
-fn put_range<K: Sink>(mem: &Mem, address: u32, count: u32, sink: &mut K) -> Result<(), Failed>
+// Writes the bytes of a range, a piece for each page that it meets, in the range's own order.
+fn write_range<K: Sink>(mem: &Mem, address: u32, count: u32, sink: &mut K) -> Result<(), Failed>
     requires { is_readable mem.now.pages address count ≡ true }
-    ensures whole { OnOk result (Appends (K.held sink.old) (K.held sink.new) (range_bytes mem.now.pages address count)) }
-    ensures front { OnErr result (PutsFront (K.held sink.old) (K.held sink.new) (range_bytes mem.now.pages address count)) }
+    ensures written { IsWritten K.Sink address (range_bytes mem.now.pages address count) (is_ok result) sink.old sink.new }
     ensures some { OnErr result (0 < count) }
-    ensures cause { OnErr result (Rose (K.faults sink.old) (K.faults sink.new)) }
-    ensures stays { count ≡ 0 → sink.new ≡ sink.old }
-    ensures later { K.faults sink.old ≤ K.faults sink.new }
+    ensures rose { OnErr result (Rose (K.faults sink.old) (K.faults sink.new)) }
 {
     let mut at = address;
     let mut left = count;
@@ -36,7 +29,7 @@ fn put_range<K: Sink>(mem: &Mem, address: u32, count: u32, sink: &mut K) -> Resu
     Ok(())
 }
 
-// What write(descriptor, address, count) answers, after its bytes were put. A call that is refused puts nothing.
+// What write(descriptor, address, count) answers, after its bytes were written. A call that is refused writes nothing.
 pub(crate) fn write<O: Sink, E: Sink>(
     mem: &Mem,
     descriptor: u32,
@@ -47,18 +40,12 @@ pub(crate) fn write<O: Sink, E: Sink>(
     merged: bool,
 ) -> Result<u32, Failed>
     ensures answer { IfOk result (λ answer. answer ≡ write_answer mem.now.pages descriptor address count) }
-    ensures gained_out { OnOk result (Appends (O.held out.old) (O.held out.new) (bytes_out merged descriptor (write_bytes mem.now.pages descriptor address count))) }
-    ensures gained_err { OnOk result (Appends (E.held err.old) (E.held err.new) (bytes_err merged descriptor (write_bytes mem.now.pages descriptor address count))) }
-    ensures front_out { OnErr result (PutsFront (O.held out.old) (O.held out.new) (bytes_out merged descriptor (write_bytes mem.now.pages descriptor address count))) }
-    ensures front_err { OnErr result (PutsFront (E.held err.old) (E.held err.new) (bytes_err merged descriptor (write_bytes mem.now.pages descriptor address count))) }
-    ensures cause { OnErr result (IsFaultOf merged descriptor (O.faults out.old) (O.faults out.new) (E.faults err.old) (E.faults err.new)) }
+    ensures to_out { IsWritten O.Sink address (bytes_out merged descriptor (write_bytes mem.now.pages descriptor address count)) (is_ok result) out.old out.new }
+    ensures to_err { IsWritten E.Sink address (bytes_err merged descriptor (write_bytes mem.now.pages descriptor address count)) (is_ok result) err.old err.new }
     ensures allowed { OnErr result (output descriptor ≡ true) }
     ensures inside { OnErr result (is_readable mem.now.pages address count ≡ true) }
     ensures some { OnErr result (0 < count) }
-    ensures out_stays { bytes_out merged descriptor (write_bytes mem.now.pages descriptor address count) ≡ [] → out.new ≡ out.old }
-    ensures err_stays { bytes_err merged descriptor (write_bytes mem.now.pages descriptor address count) ≡ [] → err.new ≡ err.old }
-    ensures later_out { O.faults out.old ≤ O.faults out.new }
-    ensures later_err { E.faults err.old ≤ E.faults err.new }
+    ensures rose { OnErr result (FailsOf O.Sink E.Sink merged descriptor out.old out.new err.old err.new) }
 {
     if !is_output(descriptor) {
         return Ok(BAD_DESCRIPTOR);
@@ -67,9 +54,9 @@ pub(crate) fn write<O: Sink, E: Sink>(
         return Ok(BAD_ADDRESS);
     }
     if merged || descriptor == ERROR_OUTPUT {
-        put_range(mem, address, count, err)?;
+        write_range(mem, address, count, err)?;
     } else {
-        put_range(mem, address, count, out)?;
+        write_range(mem, address, count, out)?;
     }
     Ok(count)
 }

@@ -43,7 +43,7 @@ insert-twice pages n p q =
     (λ (e : nat_eq n x ≡ false). rw e refl)
     (cases_Bool (nat_eq n x))))
 
-get-here : (pages : Pages) (n : ℕ) (p : Page) → fin.get (fin.insert pages n p) n ≡ Some p
+pub get-here : (pages : Pages) (n : ℕ) (p : Page) → fin.get (fin.insert pages n p) n ≡ Some p
 get-here pages n p =
     let same : nat_eq n n ≡ true = grind (arith, nat_tests) in
     fin.get-insert nat_cmp_total pages n p n ∙ rw (alike n n, same) refl

@@ -1,4 +1,7 @@
--- Guest memory: pages by their numbers, permissions, and the break.
+-- Guest memory: pages by their numbers, permissions, the memory of a list of regions, and the break.
 pub mod Pages
+pub mod Indexes
 pub mod Ranges
+pub mod Spans
 pub mod Opening
+pub mod Laying

@@ -83,15 +83,6 @@ abbrev pub joined : Option Page → ℕ → Page
 joined None perms = record { perms = perms; bytes = replicate page_size 0 }
 joined (Some p) perms = record p { perms = bit_or p.perms perms }
 
--- the pages after n pages from a number on got permissions
-unfoldable pub granted : Pages → ℕ → ℕ → ℕ → Pages
-granted pages perms first zero = pages
-granted pages perms first (suc n) = granted (map.insert pages first (joined (map.get pages first) perms)) perms (first + 1) n
-
--- how many pages a range of addresses meets
-abbrev pub pages_met : ℕ → ℕ → ℕ
-pages_met a len = if len == 0 then 0 else (place_of a + len + 4095) / page_size
-
 -- a page that the system adds: it may be read and written, and holds zeros
 abbrev pub zero_page : Page
 zero_page = record { perms = 6; bytes = replicate page_size 0 }

@@ -1,9 +1,12 @@
 // The page of an address, and its place there.
-ghost use Rattle.std.specs.Prelude.{◌≡◌, ◌+◌, ◌<◌, ◌≤◌, ◌^◌, ◌↔◌, IsTrue};
-ghost use Rattle.guest_mem.specs.Pages.{page_of, page_size, pages_met as met, place_of};
+ghost use Rattle.std.specs.Prelude.{◌≡◌, ◌+◌, ◌<◌, ◌≤◌, ◌↔◌, IsTrue};
+ghost use Rattle.guest_mem.specs.Pages.{page_of, page_size, place_of};
 
-// The bytes of a page.
-pub(crate) const PAGE_SIZE: u32 = 4096;
+/// The bytes of a page.
+pub const PAGE_SIZE: u32 = 4096;
+
+/// How many pages there are.
+pub const PAGES: u32 = 1 << 20;
 
 // The same, as a length.
 pub(crate) const PAGE_LEN: usize = PAGE_SIZE as usize;
@@ -34,16 +37,4 @@ pub(crate) fn lies_in_page(address: u32, len: u32) -> bool
     ensures { IsTrue result ↔ ((0 < len) × (place_of address + len ≤ page_size)) }
 {
     0 < len && len <= room(address)
-}
-
-// How many pages a range of addresses meets.
-pub(crate) fn pages_met(start: u32, len: u32) -> u32
-    ensures count { result ≡ met start len }
-    ensures bound { result ≤ 2 ^ 20 + 1 }
-{
-    if len == 0 {
-        return 0;
-    }
-    let span = u64::from(start % PAGE_SIZE) + u64::from(len) + u64::from(PAGE_SIZE - 1);
-    (span / u64::from(PAGE_SIZE)) as u32
 }

@@ -1,51 +1,47 @@
-// The pages that are mapped: a list that is searched from its front.
-ghost use Rattle.std.specs.Prelude.{◌≡◌, ◌==◌, ◌+◌, ◌<◌, ◌≤◌, ◌^◌, None, IfSome, IfOk, OnOk, OnErr, length, position, if◌then◌else◌};
+// The pages that are mapped, in rising order of their numbers.
+ghost use Rattle.std.specs.Prelude.{◌≡◌, ℕ, ◌+◌, ◌<◌, ◌≤◌, ◌^◌, ◌↔◌, None, Contains, IsSome, IfOk, OnOk, OnErr, length, if◌then◌else◌};
 ghost use Rattle.std.specs.Borrow.{sem, LendsIf};
 ghost use Rattle.std.specs.FinMap as map;
+ghost use Rattle.std.specs.List.Sorted.{IsStrictlyIncreasing};
 ghost use Rattle.std.specs.Option.{option_copied, option_copied_mut};
-ghost use Rattle.guest_mem.specs.Opening.{laid, opened};
-ghost use Rattle.guest_mem.specs.Pages.{allows, granted, joined, page_size, perms_at, place_of, written};
+ghost use Rattle.guest_mem.specs.Laying.{granted, laid};
+ghost use Rattle.guest_mem.specs.Opening.{opened};
+ghost use Rattle.guest_mem.specs.Pages.{allows, joined, page_size, perms_at, place_of, written};
 ghost use Rattle.guest_mem.specs.contracts.page_list.PageList.{the_row as list_row};
 ghost use Rattle.guest_mem.specs.contracts.stored_page.StoredPage.{the_row as page_row};
 
-use crate::addresses::{page_number, pages_met, place, room};
+use crate::addresses::{page_number, place, room};
 use crate::permissions::Perms;
 use crate::regions::Region;
+use crate::searching::{index_of, lower_bound};
 use crate::stored_page::StoredPage;
 use bitflags::Flags;
 use std::alloc::{AllocError as NoMemory, Global};
 use std::marker::Model;
 
-// The numbers of the pages, and beside them the pages. The numbers lie close together, so that a search steps over
-// no bytes.
+// The numbers of the pages, which rise, and beside them the pages. The numbers lie close together, so that a search
+// steps over no bytes; a page lies in a box, so that one that is added moves no bytes of others.
 #[derive(Drop)]
 pub(crate) struct PageList {
     numbers: Vec<u32>,
-    pages: Vec<StoredPage>,
+    pages: Vec<Box<StoredPage>>,
 }
 
 impl Model for PageList {
-    ghost use Rattle.std.specs.Prelude.{◌≡◌, length};
+    ghost use Rattle.std.specs.Prelude.{map};
     ghost use Rattle.std.specs.List.{zip};
     ghost use Rattle.std.specs.FinMap as fin;
     ghost use Rattle.std.specs.Coded.{coded_ℕ};
     ghost use Rattle.guest_mem.specs.Pages.{Pages, page_code};
+    ghost use Rattle.guest_mem.specs.Indexes.{IsIndex};
 
     ghost Value = { Pages };
 
     ghost coded = { fin.code coded_ℕ page_code };
 
-    ghost view = { λ l. fin.from_entries (zip l.numbers.items l.pages.items) };
+    ghost view = { λ l. fin.from_entries (zip l.numbers.items (map (λ p. p.value) l.pages.items)) };
 
-    ghost invariant = { λ l. length l.numbers.items ≡ length l.pages.items };
-}
-
-// The index of the first of the numbers that is this one.
-fn index_of(numbers: &[u32], number: u32) -> Option<usize>
-    ensures first { result ≡ position (λ n. n == number) numbers.now }
-    ensures inside { IfSome result (λ at. at < length numbers.now) }
-{
-    numbers.iter().position(|n| *n == number)
+    ghost invariant = { λ l. IsIndex l.numbers.items (map (λ p. p.value) l.pages.items) };
 }
 
 impl PageList {
@@ -65,9 +61,17 @@ impl PageList {
     {
         let mut pages = PageList::new(alloc);
         for region in regions {
-            pages.lay(region)?;
+            pages.lay(alloc, region)?;
         }
         Ok(pages)
+    }
+
+    // The numbers of the pages, each once, rising.
+    pub(crate) fn numbers(&self) -> &[u32]
+        ensures rising { IsStrictlyIncreasing result.now }
+        ensures mapped { (n : ℕ) → Contains result.now n ↔ IsSome (map.get self.now n) }
+    {
+        &self.numbers
     }
 
     // The page of a number.
@@ -75,7 +79,7 @@ impl PageList {
         ensures { option_copied result ≡ map.get self.now number }
     {
         match index_of(&self.numbers, number) {
-            Some(at) => Some(&self.pages[at]),
+            Some(at) => Some(&*self.pages[at]),
             None => None,
         }
     }
@@ -86,25 +90,27 @@ impl PageList {
         ensures page { option_copied_mut result ≡ map.get self.old number }
     {
         match index_of(&self.numbers, number) {
-            Some(at) => Some(&mut self.pages[at]),
+            Some(at) => Some(&mut *self.pages[at]),
             None => None,
         }
     }
 
     // Adds a page of zeros, whose number was not there.
-    fn add(&mut self, number: u32, perms: Perms) -> Result<(), NoMemory>
+    fn add(&mut self, alloc: Global, number: u32, perms: Perms) -> Result<(), NoMemory>
         requires { map.get self.old number ≡ None }
         ensures page { OnOk result (self.new ≡ map.insert self.old number (joined None perms.0)) }
         ensures kept { OnErr result (self.new ≡ self.old) }
     {
+        let at = lower_bound(&self.numbers, number);
+        let page = Box::new(alloc, StoredPage::zero(perms))?;
         self.numbers.reserve(1)?;
-        self.pages.push(StoredPage::zero(perms))?;
-        self.numbers.push(number)?;
+        self.pages.insert(at, page)?;
+        self.numbers.insert(at, number)?;
         Ok(())
     }
 
     // Gives permissions to a page, which is added where it was not there.
-    pub(crate) fn grant(&mut self, number: u32, perms: Perms) -> Result<(), NoMemory>
+    pub(crate) fn grant(&mut self, alloc: Global, number: u32, perms: Perms) -> Result<(), NoMemory>
         ensures page { OnOk result (self.new ≡ map.insert self.old number (joined (map.get self.old number) perms.0)) }
         ensures kept { OnErr result (self.new ≡ self.old) }
     {
@@ -112,27 +118,33 @@ impl PageList {
             page.grant(perms);
             return Ok(());
         }
-        self.add(number, perms)
+        self.add(alloc, number, perms)
     }
 
     // Gives permissions to pages from a number on.
-    fn grant_each(&mut self, first: u32, count: u32, perms: Perms) -> Result<(), NoMemory>
+    fn grant_each(
+        &mut self,
+        alloc: Global,
+        first: u32,
+        count: u32,
+        perms: Perms,
+    ) -> Result<(), NoMemory>
         requires { first + count < 2 ^ 32 }
         ensures { OnOk result (self.new ≡ granted self.old perms.0 first count) }
     {
         for more in 0..count {
-            self.grant(first + more, perms)?;
+            self.grant(alloc, first + more, perms)?;
         }
         Ok(())
     }
 
     // Adds a region: its permissions, then its bytes.
-    fn lay(&mut self, region: &Region) -> Result<(), NoMemory>
+    fn lay(&mut self, alloc: Global, region: &Region) -> Result<(), NoMemory>
         ensures { OnOk result (self.new ≡ laid self.old region.now) }
     {
-        let count = pages_met(region.start, region.len);
-        self.grant_each(page_number(region.start), count, region.perms)?;
-        self.copy_in(region.start, region.bytes.as_slice());
+        let span = region.span();
+        self.grant_each(alloc, span.first_page(), span.page_count(), region.perms)?;
+        self.copy_in(region.start, region.bytes_inside());
         Ok(())
     }
 

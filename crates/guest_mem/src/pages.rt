@@ -1,6 +1,7 @@
 // Memory: the pages that are mapped, and the break.
-ghost use Rattle.std.specs.Prelude.{◌≡◌, ◌+◌, ◌<◌, ◌≤◌, Some, None, IsSome, OnOk, IfOk, OnErr, IfErr, IfSome, is_none, is_some, length};
+ghost use Rattle.std.specs.Prelude.{◌≡◌, ℕ, ◌+◌, ◌<◌, ◌≤◌, ◌↔◌, IsTrue, true, false, Contains, Some, None, IsSome, OnOk, IfOk, OnErr, IfErr, IfSome, IfNone, is_none, is_some, length};
 ghost use Rattle.std.specs.FinMap as map;
+ghost use Rattle.std.specs.List.Sorted.{IsStrictlyIncreasing};
 ghost use Rattle.std.specs.Int.{from_le_bytes, w32};
 ghost use Rattle.std.specs.Option.{option_copied};
 ghost use Rattle.guest_mem.specs.Opening.{opened};
@@ -42,11 +43,14 @@ impl Model for Mem {
     ghost invariant = { λ m. (m.heap ≤ m.brk) × (m.brk ≤ m.heap_end) };
 }
 
-// The number of up to four bytes, the lowest first.
+// The number of up to four bytes, the lowest first. A word is one read.
 fn little_endian(bytes: &[u8]) -> u32
     requires { length bytes.now ≤ WORD_BYTES }
     ensures { result ≡ from_le_bytes w32 bytes.now }
 {
+    if let [a, b, c, d] = bytes {
+        return u32::from_le_bytes([*a, *b, *c, *d]);
+    }
     let mut word = [0; WORD_BYTES as usize];
     word[..bytes.len()].copy_from_slice(bytes);
     u32::from_le_bytes(word)
@@ -58,6 +62,14 @@ impl Mem {
         ensures { option_copied result ≡ map.get self.now.pages (page_of address) }
     {
         self.pages.page(page_number(address))
+    }
+
+    /// The numbers of the pages that are mapped, each once, rising.
+    pub fn index(&self) -> &[u32]
+        ensures rising { IsStrictlyIncreasing result.now }
+        ensures mapped { (n : ℕ) → Contains result.now n ↔ IsSome (map.get self.now.pages n) }
+    {
+        self.pages.numbers()
     }
 
     /// The permissions of an address: none where its page is not mapped.
@@ -84,6 +96,25 @@ impl Mem {
         self.page(address)
             .unwrap()
             .range(place(address), len as usize)
+    }
+
+    /// The bytes of a range that lies within one page, where the page has the permissions that are needed; `None` where it
+    /// runs over the page's end or the page lacks one. They are lent, and not copied.
+    pub fn range_in_page(&self, address: u32, len: u32, need: Perms) -> Option<&[u8]>
+        requires { 0 < need.0 }
+        ensures inside { IsSome result → place_of address + len ≤ page_size }
+        ensures allowed { IsSome result → allows need.0 (perms_at self.now.pages address) ≡ true }
+        ensures refused { IfNone result (place_of address + len ≤ page_size → allows need.0 (perms_at self.now.pages address) ≡ false) }
+        ensures bytes { IfSome result (λ bytes. bytes.now ≡ range_bytes self.now.pages address len) }
+    {
+        if len > room(address) {
+            return None;
+        }
+        let page = self.page(address)?;
+        if !page.perms().contains(need) {
+            return None;
+        }
+        Some(page.range(place(address), len as usize))
     }
 
     /// Whether each byte of a range may be reached as it is needed. The range wraps modulo 2^32; of no bytes it is
@@ -126,11 +157,8 @@ impl Mem {
         ensures allowed { is_some result ≡ allows need.0 (perms_at self.now.pages address) }
         ensures value { IfSome result (λ v. v ≡ loaded self.now.pages address len) }
     {
-        let page = self.page(address)?;
-        if !page.perms().contains(need) {
-            return None;
-        }
-        Some(little_endian(page.range(place(address), len as usize)))
+        let bytes = self.range_in_page(address, len, need)?;
+        Some(little_endian(bytes))
     }
 
     // Reads up to four bytes as a number, where they have the permissions that are needed.
@@ -193,6 +221,16 @@ impl Mem {
         self.pages.copy_in(address, bytes);
     }
 
+    /// Writes bytes that lie within one page, where it may be written. Says whether it may.
+    pub fn store_in_page(&mut self, address: u32, bytes: &[u8]) -> bool
+        requires { place_of address + length bytes.now ≤ page_size }
+        ensures allowed { result ≡ allows Perms.WRITE.0 (perms_at self.old.pages address) }
+        ensures stored { IsTrue result → self.new ≡ record self.old { pages = written self.old.pages address bytes.now } }
+        ensures kept { result ≡ false → self.new ≡ self.old }
+    {
+        self.pages.store_in_page(address, bytes)
+    }
+
     /// Writes the low bytes of a number, of up to four bytes, the lowest first. The range wraps modulo 2^32. The fault
     /// has the first address that may not be written, and then nothing is written.
     #[tactic(auto, using(crate::proofs::InPage::bad_in_page, crate::proofs::Storing::stored_word))]
@@ -210,7 +248,7 @@ impl Mem {
             self.copy_in(address, bytes);
             return Ok(());
         }
-        if !self.pages.store_in_page(address, bytes) {
+        if !self.store_in_page(address, bytes) {
             return Err(MemFault { address });
         }
         Ok(())
@@ -226,8 +264,7 @@ impl Mem {
         if self.page(address).is_some() {
             return Ok(false);
         }
-        self.pages
-            .grant(page_number(address), Perms::READ.union(Perms::WRITE))?;
+        self.pages.grant(alloc, page_number(address), Perms::READ.union(Perms::WRITE))?;
         Ok(true)
     }
 

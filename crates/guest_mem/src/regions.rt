@@ -1,8 +1,14 @@
 // The regions that a memory is made of.
 ghost use Rattle.std.specs.Prelude.{◌≡◌};
+ghost use Rattle.guest_mem.specs.Opening.{bytes_of};
+ghost use Rattle.guest_mem.specs.Spans.{span_of};
 
 use crate::permissions::Perms;
+use crate::spans::Span;
 use std::marker::Model;
+
+// How many addresses there are.
+const ADDRESSES: u64 = 1 << 32;
 
 /// Bytes of a region; contracts see them as a list.
 #[derive(Drop)]
@@ -45,4 +51,29 @@ pub struct Region {
     pub len: u32,
     pub perms: Perms,
     pub bytes: ByteList,
+}
+
+impl Region {
+    /// Its range.
+    pub fn span(&self) -> Span
+        ensures { result ≡ span_of self.now }
+    {
+        Span {
+            start: self.start,
+            len: self.len,
+            perms: self.perms,
+        }
+    }
+
+    // Its bytes, no more than its length, and none past the last address.
+    pub(crate) fn bytes_inside(&self) -> &[u8]
+        ensures { result.now ≡ bytes_of self.now }
+    {
+        let bytes = self.bytes.as_slice();
+        let most = u64::from(self.len).min(ADDRESSES - u64::from(self.start)) as usize;
+        if bytes.len() <= most {
+            return bytes;
+        }
+        &bytes[..most]
+    }
 }

@@ -7,7 +7,7 @@ use std::io::{Cursor, ErrorKind, Read};
 use std::rt::Files as FileSystem;
 use std::test::Fail;
 
-// A reader that gives bytes for some calls, and fails at each call behind them.
+// A reader that gives bytes for some calls, and fails at each call after them.
 #[derive(Drop)]
 struct Breaking {
     bytes: Cursor<&'static [u8]>,

@@ -1,6 +1,6 @@
 // Steps on a small memory: edges of pages, of permissions, of addresses and of the heap.
 use bitflags::Flags;
-use guest_mem::{ByteList, Mem, MemFault, Perms, Region};
+use guest_mem::{ByteList, Mem, MemFault, PAGE_SIZE, Perms, Region};
 use std::alloc::{AllocError as NoMemory, Global};
 use std::test::Fail;
 
@@ -35,11 +35,15 @@ enum Step {
     Store(u32, u32, u32, Result<(), MemFault>),
     Map(u32, bool),
     CopyIn(u32, &'static [u8]),
+    Index(&'static [u32]),
+    RangeInPage(u32, u32, Perms, Option<&'static [u8]>),
+    StoreInPage(u32, &'static [u8], bool),
     Break(u32),
     SetBreak(u32, u32),
 }
 
-const STEPS: [Step; 33] = [
+const STEPS: [Step; 44] = [
+    Step::Index(&[1, 2, 3]),
     // A range runs over the end of a page.
     Step::Load(0x1ffe, 4, Ok(0x0605_0403)),
     Step::Load(0x1ffe, 1, Ok(3)),
@@ -61,7 +65,17 @@ const STEPS: [Step; 33] = [
         Err(MemFault { address: 0x3000 }),
     ),
     Step::Check(0x4000, 0, Perms::WRITE, Ok(())),
+    // A range is lent where it lies within one page that has the permissions.
+    Step::RangeInPage(0x1ffe, 2, Perms::READ, Some(&[3, 4])),
+    Step::RangeInPage(0x1ffe, 3, Perms::READ, None),
+    Step::RangeInPage(0x1ffe, 2, Perms::WRITE, None),
+    Step::RangeInPage(0x4000, 1, Perms::READ, None),
     // A refused store writes nothing.
+    Step::StoreInPage(0x1ffe, &[9, 9], false),
+    Step::Load(0x1ffe, 2, Ok(0x0403)),
+    Step::StoreInPage(0x2ffe, &[9, 8], true),
+    Step::Load(0x2ffe, 2, Ok(0x0809)),
+    Step::StoreInPage(0x2ffe, &[0, 0], true),
     Step::Store(0x2ffe, 4, 0x0a0b_0c0d, Err(MemFault { address: 0x3000 })),
     Step::Load(0x2ffe, 2, Ok(0)),
     Step::Store(0x1ffe, 4, 0x0a0b_0c0d, Err(MemFault { address: 0x1ffe })),
@@ -73,6 +87,7 @@ const STEPS: [Step; 33] = [
     Step::Store(0xffff_fffe, 2, 0x0102, Ok(())),
     Step::Load(0xffff_fffe, 4, Err(MemFault { address: 0 })),
     Step::Map(0, true),
+    Step::Index(&[0, 1, 2, 3, 0xf_ffff]),
     Step::Load(0xffff_fffe, 4, Ok(0x0102)),
     Step::CopyIn(0xffff_ffff, &[5, 6]),
     Step::Load(0xffff_fffe, 4, Ok(0x0006_0502)),
@@ -98,6 +113,15 @@ fn three_regions(alloc: Global) -> Result<Mem, NoMemory> {
     Mem::new(alloc, &regions, 0x4000, 0x8000)
 }
 
+// Whether these bytes are lent, or none.
+fn is_lent(lent: Option<&[u8]>, answer: Option<&[u8]>) -> bool {
+    match (lent, answer) {
+        (Some(bytes), Some(wanted)) => bytes == wanted,
+        (None, None) => true,
+        _ => false,
+    }
+}
+
 // Makes the call of a step, and says whether it answers so.
 fn answers(alloc: Global, mem: &mut Mem, step: &Step) -> Result<bool, NoMemory> {
     Ok(match *step {
@@ -113,6 +137,14 @@ fn answers(alloc: Global, mem: &mut Mem, step: &Step) -> Result<bool, NoMemory> 
         Step::CopyIn(address, bytes) => {
             mem.copy_in(address, bytes);
             true
+        }
+        Step::Index(answer) => mem.index() == answer,
+        Step::RangeInPage(address, len, need, answer) => {
+            need.bits() > 0 && is_lent(mem.range_in_page(address, len, need), answer)
+        }
+        Step::StoreInPage(address, bytes, answer) => {
+            (address % PAGE_SIZE) as usize + bytes.len() <= PAGE_SIZE as usize
+                && mem.store_in_page(address, bytes) == answer
         }
         Step::Break(answer) => mem.brk() == answer,
         Step::SetBreak(asked, answer) => mem.set_brk(asked) == answer,

@@ -4,7 +4,8 @@ use Rattle.micro_ir.specs.declared.op.MicroOp.{MicroOp}
 use Rattle.micro_ir.specs.declared.place.Place.{Place}
 use Rattle.micro_ir.specs.Steps.{Step, micros}
 use Rattle.gen_arith.specs.Recipes.{sum_steps, add, sub, adc, sbc, truth_steps, madc, madc_in, msbc, msbc_in, eq, ne, ltu, lt, leu, le, gtu, gt, choice_steps, first_on, second_on}
-use Rattle.gen_logic.specs.Recipes.{table_steps, and_on, or_on, xor_on, nand_on, nor_on, xnor_on, andn_on, orn_on, move_steps, merge_steps}
+use Rattle.gen_logic.specs.Recipes.{logic_steps}
+use Rattle.gen_logic.specs.declared.kinds.Logic.TheVariants.{And as LogicAnd, Or as LogicOr, Xor as LogicXor, Nand as LogicNand, Nor as LogicNor, Xnor as LogicXnor, Andn as LogicAndn, Orn as LogicOrn, Second as LogicSecond, Merge as LogicMerge}
 use Rattle.library_probe.specs.declared.kinds.Size.{Size}
 use Rattle.library_probe.specs.declared.kinds.Size.TheVariants.{Byte, Half, Word}
 use Rattle.library_probe.specs.declared.kinds.Bitwise.{Bitwise}
@@ -26,16 +27,16 @@ bits_of Word = 32
 
 -- the steps of a kind that acts bit by bit, from the width and the place
 abbrev pub bitwise_steps : Bitwise → ℕ → Place → List Step
-bitwise_steps And w at = table_steps w and_on at.a at.b at.to
-bitwise_steps Or w at = table_steps w or_on at.a at.b at.to
-bitwise_steps Xor w at = table_steps w xor_on at.a at.b at.to
-bitwise_steps Nand w at = table_steps w nand_on at.a at.b at.to
-bitwise_steps Nor w at = table_steps w nor_on at.a at.b at.to
-bitwise_steps Xnor w at = table_steps w xnor_on at.a at.b at.to
-bitwise_steps Andn w at = table_steps w andn_on at.a at.b at.to
-bitwise_steps Orn w at = table_steps w orn_on at.a at.b at.to
-bitwise_steps Move w at = move_steps w at.b at.to
-bitwise_steps Merge w at = merge_steps w at.a at.b at.to
+bitwise_steps And w at = logic_steps LogicAnd w at.a at.b at.to
+bitwise_steps Or w at = logic_steps LogicOr w at.a at.b at.to
+bitwise_steps Xor w at = logic_steps LogicXor w at.a at.b at.to
+bitwise_steps Nand w at = logic_steps LogicNand w at.a at.b at.to
+bitwise_steps Nor w at = logic_steps LogicNor w at.a at.b at.to
+bitwise_steps Xnor w at = logic_steps LogicXnor w at.a at.b at.to
+bitwise_steps Andn w at = logic_steps LogicAndn w at.a at.b at.to
+bitwise_steps Orn w at = logic_steps LogicOrn w at.a at.b at.to
+bitwise_steps Move w at = logic_steps LogicSecond w at.a at.b at.to
+bitwise_steps Merge w at = logic_steps LogicMerge w at.a at.b at.to
 
 -- the steps of a sum or a difference
 abbrev pub added_steps : Added → ℕ → Place → List Step

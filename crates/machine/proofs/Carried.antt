@@ -2,7 +2,7 @@
 use Rattle.std.proofs.Common.{◌≡◌, ℕ, Bool, true, false, List, [], Option, Some, None, refl, sym, ap, ◌∙◌, append-nil, arith}
 use Rattle.std.specs.Prelude.{if◌then◌else◌, nat_eq}
 use Rattle.std.specs.Io.KnownBytes.{Appends, Consumes}
-use Rattle.cape_io.specs.Devices.{PutsFront}
+use Rattle.cape_io.specs.Views.{DeviceViews, Devices}
 use Rattle.cam_chain.specs.ChainValue.{slices_of}
 use Rattle.micro_ir.specs.declared.op.MicroOp.{MicroOp}
 use Rattle.rv32_decode.specs.declared.instruction.Instr.{Instr}
@@ -21,16 +21,18 @@ use Rattle.rvv_meaning.specs.declared.Flow.{Flow}
 use Rattle.rvv_meaning.specs.declared.Flow.TheVariants.{Call as Calls}
 use Rattle.rvv_meaning.specs.declared.Next.TheVariants.{Stop, Perform}
 use Rattle.rvv_meaning.specs.Calls.{first, named_call, asked_by, put_by}
-use Rattle.rvv_meaning.specs.States.{Core, next, core_after, call_at, call_by, asked, puts, effect_at, with_effect, after_flow, executed_vector, called, cfg_at, reg}
+use Rattle.rvv_meaning.specs.States.{Core, next, core_after, call_at, call_by, asked, puts, effect_at, with_effect, after_flow, executed_vector, called, reg}
 use Rattle.rvv_meaning.specs.Operations.{operation_for}
-use Rattle.rvv_meaning.specs.Vectors.{scalar_operand, is_on_elements}
+use Rattle.rvv_meaning.specs.Vectors.{is_on_elements}
 use Rattle.rvv_meaning.proofs.Calling.{Rests, executed-rests}
 use Rattle.guest_env.specs.Inputs.{Takes}
-use Rattle.guest_env.specs.Outputs.{bytes_out, bytes_err}
-use Rattle.vec_exec.specs.Programs.{prog, is_engine, is_engine_op, is_opi_engine, is_opm_engine}
-use Rattle.machine.specs.Moments.{Held, program_at, slices_by, control_by}
-use Rattle.machine.specs.Views.{gains_out, gains_err}
-use Rattle.machine.specs.Carrying.{Carries, Fails}
+use Rattle.guest_env.specs.Outputs.{bytes_out, bytes_err, IsWritten}
+use Rattle.guest_env.proofs.Writing.{written-none}
+use Rattle.cape_io.specs.declared.devices.Sink.{Ghosts}
+use Rattle.vec_exec.specs.Programs.{is_engine, is_engine_op, is_opi_engine, is_opm_engine}
+use Rattle.machine.specs.Moments.{Held, program_for, program_at, slices_by, counts_by, control_by}
+use Rattle.machine.specs.Views.{CallsAt, gains_out, gains_err}
+use Rattle.machine.specs.Carrying.{CarriesTaking, CallsTaking, call_out, call_err}
 
 pub appends_none : (held : Option (List ℕ)) → Appends held held []
 appends_none None = tt
@@ -42,7 +44,7 @@ consumes_none (Some bytes) = refl
 
 -- nothing is taken where nothing is asked for
 takes_none : (left : Option (List ℕ)) → Takes 0 left left []
-takes_none left = record { bound = omega arith; consumed = consumes_none left; told = λ bytes is. refl }
+takes_none left = record { bound = omega arith; consumed = consumes_none left; known = λ bytes is. refl }
 
 either_way : (b : Bool) (xs : List ℕ) → (if b then xs else xs) ≡ xs
 either_way true xs = refl
@@ -56,6 +58,10 @@ gains_err-none : (merged : Bool) (c : Core) → puts c ≡ [] → gains_err merg
 gains_err-none true c none = none
 gains_err-none false c none = rw none (either_way (nat_eq (reg c 10) 2) [])
 
+-- merged, the first sink gains nothing
+pub none_merged : (merged : Bool) (c : Core) → merged ≡ true → gains_out merged c ≡ []
+none_merged merged c is = rw is refl
+
 -- a step without a call asks for nothing and puts nothing
 no_asking : (c : Core) → call_at c ≡ None → asked c ≡ 0
 unfolding asked
@@ -68,11 +74,12 @@ no_puts c none = rw none refl
 quiet_takes : (c : Core) (left : Option (List ℕ)) → call_at c ≡ None → Takes (asked c) left left []
 quiet_takes c left none = rw (no_asking c none) (takes_none left)
 
-quiet_out : (merged : Bool) (c : Core) (out : Option (List ℕ)) → call_at c ≡ None → Appends out out (gains_out merged c)
-quiet_out merged c out none = rw (gains_out-none merged c (no_puts c none)) (appends_none out)
+-- and its sinks take no byte
+pub quiet-out : {K : Type 0} (k : Ghosts K) (a : ℕ) (merged : Bool) (c : Core) (sink : K) → call_at c ≡ None → IsWritten k a (gains_out merged c) true sink sink
+quiet-out k a merged c sink none = rw (gains_out-none merged c (no_puts c none)) (written-none k a true sink)
 
-quiet_err : (merged : Bool) (c : Core) (err : Option (List ℕ)) → call_at c ≡ None → Appends err err (gains_err merged c)
-quiet_err merged c err none = rw (gains_err-none merged c (no_puts c none)) (appends_none err)
+pub quiet-err : {K : Type 0} (k : Ghosts K) (a : ℕ) (merged : Bool) (c : Core) (sink : K) → call_at c ≡ None → IsWritten k a (gains_err merged c) true sink sink
+quiet-err k a merged c sink none = rw (gains_err-none merged c (no_puts c none)) (written-none k a true sink)
 
 -- an ecall changes nothing by itself
 pub still : (i : Instr) (c : Core) → (effect_at i c).flow ≡ Calls → with_effect (effect_at i c) c ≡ c
@@ -81,7 +88,7 @@ still i c is =
     rw (Rests.regs_rest rests is, Rests.csrs_rest rests is, Rests.mem_rests rests is) refl
 
 -- what it asks for, and what it puts
-call_asks : (i : Instr) (c : Core) → next c ≡ Perform (Scalar i) → (effect_at i c).flow ≡ Calls → asked c ≡ asked_by (named_call c.regs) c.regs c.mem
+pub call_asks : (i : Instr) (c : Core) → next c ≡ Perform (Scalar i) → (effect_at i c).flow ≡ Calls → asked c ≡ asked_by (named_call c.regs) c.regs c.mem
 unfolding asked call_at
 call_asks i c there is = rw (there, is) refl
 
@@ -118,84 +125,119 @@ runs-program : (i : VInstr) → is_on_elements i.op ≡ true → is_engine i ≡
 unfolding is_engine
 runs-program i on = engine-runs i.op i.form on
 
-module _ (merged : Bool) (old new : Held) (left out err : Option (List ℕ)) where
+-- an instruction that is no call, by what comes at pc
+pub stop-quiet : (mode : Mode) (c : Core) → next c ≡ Stop mode → call_at c ≡ None
+unfolding call_at
+stop-quiet mode c there = rw there refl
+
+pub vector-quiet : (i : VInstr) (c : Core) → next c ≡ Perform (Vector i) → call_at c ≡ None
+unfolding call_at
+vector-quiet i c there = rw there refl
+
+pub scalar-quiet : (i : Instr) (flow : Flow) (c : Core) → next c ≡ Perform (Scalar i) → (effect_at i c).flow ≡ flow → call_by flow c.regs ≡ None → call_at c ≡ None
+unfolding call_at
+scalar-quiet i flow c there goes plain = rw (there, goes) plain
+
+module _ (old new : Held) (v : DeviceViews) where
+  -- devices that stay as they were
+  abbrev same : Devices
+  same = record { old = v; new = v }
+
   -- the machine stopped
-  pub carries-stop : (mode : Mode) → next old.core ≡ Stop mode → new ≡ record old { core = record old.core { mode = mode }; last = [] } → Carries merged old new [] left left out out err err
-  unfolding core_after program_at call_at
+  pub carries-stop : (mode : Mode) → next old.core ≡ Stop mode → new ≡ record old { core = record old.core { mode = mode }; last = [] } → CarriesTaking old new [] same
+  unfolding core_after program_at
   carries-stop mode there is =
-      let none : call_at old.core ≡ None = rw there refl in
-      rw is record { core = rw there refl; slices = rw there refl; last = rw there refl; control = rw there refl; live = refl; took = quiet_takes old.core left none; gained_out = quiet_out merged old.core out none; gained_err = quiet_err merged old.core err none }
+      rw is record {
+        core = rw there refl;
+        slices = rw there refl;
+        last = rw there refl;
+        counts = rw there refl;
+        control = rw there refl;
+        live = refl;
+        took = quiet_takes old.core v.input.left (stop-quiet mode old.core there);
+        quiet = refl;
+      }
 
   -- a scalar instruction that is no call
   pub carries-scalar : (i : Instr) (flow : Flow) → next old.core ≡ Perform (Scalar i) → (effect_at i old.core).flow ≡ flow → call_by flow old.core.regs ≡ None
-      → new ≡ record old { core = after_flow flow (with_effect (effect_at i old.core) old.core) []; last = [] } → Carries merged old new [] left left out out err err
-  unfolding core_after program_at call_at
+      → new ≡ record old { core = after_flow flow (with_effect (effect_at i old.core) old.core) []; last = [] } → CarriesTaking old new [] same
+  unfolding core_after program_at
   carries-scalar i flow there goes plain is =
-      let none : call_at old.core ≡ None = rw (there, goes) plain in
-      rw is record { core = rw (there, goes) refl; slices = rw there refl; last = rw there refl; control = rw there refl; live = refl; took = quiet_takes old.core left none; gained_out = quiet_out merged old.core out none; gained_err = quiet_err merged old.core err none }
+      rw is record {
+        core = rw (there, goes) refl;
+        slices = rw there refl;
+        last = rw there refl;
+        counts = rw there refl;
+        control = rw there refl;
+        live = refl;
+        took = quiet_takes old.core v.input.left (scalar-quiet i flow old.core there goes plain);
+        quiet = refl;
+      }
 
   -- a configuration
   pub carries-configuration : (op : ConfigOp) (i : VInstr) → next old.core ≡ Perform (Vector i) → i.op ≡ Config op → new ≡ record old { core = executed_vector i old.core; last = [] }
-      → Carries merged old new [] left left out out err err
-  unfolding core_after program_at call_at is_engine
+      → CarriesTaking old new [] same
+  unfolding core_after program_at is_engine
   carries-configuration op i there named is =
-      let none : call_at old.core ≡ None = rw there refl in
-      rw is record { core = rw (there, named) refl; slices = rw (there, named) refl; last = rw (there, named) refl; control = rw (there, named) refl; live = refl; took = quiet_takes old.core left none; gained_out = quiet_out merged old.core out none; gained_err = quiet_err merged old.core err none }
+      rw is record {
+        core = rw (there, named) refl;
+        slices = rw (there, named) refl;
+        last = rw (there, named) refl;
+        counts = rw (there, named) refl;
+        control = rw (there, named) refl;
+        live = refl;
+        took = quiet_takes old.core v.input.left (vector-quiet i old.core there);
+        quiet = refl;
+      }
 
   -- an instruction on elements
   pub carries-program : (i : VInstr) → next old.core ≡ Perform (Vector i) → is_on_elements i.op ≡ true
       → new.core ≡ executed_vector i old.core
-      → slices_of new.chain ≡ slices_by (Some (prog i (cfg_at old.core) (scalar_operand i old.core.regs))) (slices_of old.chain)
-      → new.last ≡ prog i (cfg_at old.core) (scalar_operand i old.core.regs)
-      → new.control ≡ control_by (Some (prog i (cfg_at old.core) (scalar_operand i old.core.regs))) (slices_of old.chain) old.control
+      → slices_of new.chain ≡ slices_by (Some (program_for i old.core)) (slices_of old.chain)
+      → new.last ≡ program_for i old.core
+      → new.chain.counts ≡ counts_by (Some (program_for i old.core)) old.chain.counts
+      → new.control ≡ control_by (Some (program_for i old.core)) (slices_of old.chain) old.control
       → new.live ≡ old.live
-      → Carries merged old new [] left left out out err err
-  unfolding core_after program_at call_at
-  carries-program i there on core slices last control live =
-      let none : call_at old.core ≡ None = rw there refl in
+      → CarriesTaking old new [] same
+  unfolding core_after program_at
+  carries-program i there on core slices last counts control live =
       let runs = runs-program i on in
       record {
         core = core ∙ rw there refl;
         slices = slices ∙ rw (there, runs) refl;
         last = last ∙ rw (there, runs) refl;
+        counts = counts ∙ rw (there, runs) refl;
         control = control ∙ rw (there, runs) refl;
         live = live;
-        took = quiet_takes old.core left none;
-        gained_out = quiet_out merged old.core out none;
-        gained_err = quiet_err merged old.core err none;
+        took = quiet_takes old.core v.input.left (vector-quiet i old.core there);
+        quiet = refl;
       }
 
--- the bytes that the sinks gain of a call
-pub call_gains_out : (merged : Bool) (i : Instr) (c : Core) → next c ≡ Perform (Scalar i) → (effect_at i c).flow ≡ Calls → gains_out merged c ≡ bytes_out merged (first c.regs) (put_by (named_call c.regs) c.regs c.mem)
-call_gains_out merged i c there is = ap (λ (bytes : List ℕ). bytes_out merged (first c.regs) bytes) (call_puts i c there is)
+module _ (i : Instr) (c : Core) (there : next c ≡ Perform (Scalar i)) (is : (effect_at i c).flow ≡ Calls) where
+  -- the bytes that the sinks gain of a call
+  pub call_gains_out : (merged : Bool) → gains_out merged c ≡ call_out merged c
+  call_gains_out merged = ap (λ (bytes : List ℕ). bytes_out merged (first c.regs) bytes) (call_puts i c there is)
 
-pub call_gains_err : (merged : Bool) (i : Instr) (c : Core) → next c ≡ Perform (Scalar i) → (effect_at i c).flow ≡ Calls → gains_err merged c ≡ bytes_err merged (first c.regs) (put_by (named_call c.regs) c.regs c.mem)
-call_gains_err merged i c there is = ap (λ (bytes : List ℕ). bytes_err merged (first c.regs) bytes) (call_puts i c there is)
+  pub call_gains_err : (merged : Bool) → gains_err merged c ≡ call_err merged c
+  call_gains_err merged = ap (λ (bytes : List ℕ). bytes_err merged (first c.regs) bytes) (call_puts i c there is)
 
-module _ (merged : Bool) (old new : Held) (left left' out out' err err' : Option (List ℕ)) (i : Instr) (there : next old.core ≡ Perform (Scalar i)) (is : (effect_at i old.core).flow ≡ Calls) where
-  -- a call that went
-  pub carries-call : (taken : List ℕ) → Takes (asked_by (named_call old.core.regs) old.core.regs old.core.mem) left left' taken
-      → new ≡ record old { core = called old.core taken; last = [] }
-      → Appends out out' (bytes_out merged (first old.core.regs) (put_by (named_call old.core.regs) old.core.regs old.core.mem))
-      → Appends err err' (bytes_err merged (first old.core.regs) (put_by (named_call old.core.regs) old.core.regs old.core.mem))
-      → Carries merged old new taken left left' out out' err err'
-  unfolding core_after program_at
-  carries-call taken took leaves put_out put_err =
-      rw leaves record {
-        core = rw (there, is, still i old.core is) refl;
-        slices = rw there refl;
-        last = rw there refl;
-        control = rw there refl;
-        live = refl;
-        took = rw (call_asks i old.core there is) took;
-        gained_out = rw (call_gains_out merged i old.core there is) put_out;
-        gained_err = rw (call_gains_err merged i old.core there is) put_err;
-      }
-
-  -- a call that failed
-  pub fails-call : PutsFront out out' (bytes_out merged (first old.core.regs) (put_by (named_call old.core.regs) old.core.regs old.core.mem))
-      → PutsFront err err' (bytes_err merged (first old.core.regs) (put_by (named_call old.core.regs) old.core.regs old.core.mem))
-      → Fails merged old out out' err err'
+  -- the instruction at pc makes it
+  pub calls-at : CallsAt c
   unfolding call_at
-  fails-call put_out put_err =
-      record { calls = rw (there, is) refl; front_out = rw (call_gains_out merged i old.core there is) put_out; front_err = rw (call_gains_err merged i old.core there is) put_err }
+  calls-at = rw (there, is) refl
+
+-- a call that went
+pub carries-call : (old new : Held) (d : Devices) (i : Instr) → next old.core ≡ Perform (Scalar i) → (effect_at i old.core).flow ≡ Calls
+    → old.last ≡ [] → (taken : List ℕ) → CallsTaking old new taken d → CarriesTaking old new taken d
+unfolding core_after program_at
+carries-call old new d i there is none taken w =
+    rw (emptied old new (called old.core taken) none w.leaves) record {
+      core = rw (there, is, still i old.core is) refl;
+      slices = rw there refl;
+      last = rw there refl;
+      counts = rw there refl;
+      control = rw there refl;
+      live = refl;
+      took = rw (call_asks i old.core there is) w.took;
+      quiet = w.quiet;
+    }

@@ -6,14 +6,15 @@ use Rattle.cam_chain.specs.ChainValue.{ChainValue, slices_of}
 use Rattle.cam_chain.specs.Views.{registers_of}
 use Rattle.micro_ir.specs.declared.op.MicroOp.{MicroOp}
 use Rattle.micro_ir.specs.declared.control.Control.{Control}
-use Rattle.micro_ir.specs.Replay.{replay, clips, state_of, control_after}
+use Rattle.micro_ir.specs.Replay.{replay, clips, tally, counts_and, state_of, control_after}
 use Rattle.rvv_decode.specs.declared.instruction.VInstr.{VInstr}
 use Rattle.vtype_cfg.specs.declared.configuration.Cfg.{Cfg}
 use Rattle.rvv_meaning.specs.Elementwise.{registers_after, clips as clips_elements}
 use Rattle.rvv_meaning.specs.Operations.{Operation, operation_for, on_elements}
 use Rattle.rvv_meaning.specs.Vectors.{elements}
 use Rattle.vec_exec.specs.Programs.{Leaves, RealisesInstruction}
-use Rattle.machine.specs.Moments.{slices_by}
+use Rattle.cam_chain.specs.declared.counts.Counts.{Counts}
+use Rattle.machine.specs.Moments.{slices_by, counts_by}
 
 state-zero : (v : ChainValue) → state_of v 0 ≡ slices_of v
 unfolding slices_of
@@ -31,6 +32,11 @@ replayed-slices old new ctl ops read same is =
 pub replayed-control : (old : ChainValue) (ctl : Control) (ops read : List MicroOp) → read ≡ ops → ctl ≡ control_after (take (length read) ops) (record { num = 0; clip = false }) old
     → ctl ≡ record { num = (replay ops (record (slices_of old) { num = 0 })).num; clip = clips ops (record (slices_of old) { num = 0 }) }
 replayed-control old ctl ops read same is =
+    let whole : take (length read) ops ≡ ops = rw same (take-length ops) in
+    is ∙ rw whole refl
+
+pub replayed-counts : (old new : Counts) (ops read : List MicroOp) → read ≡ ops → new ≡ counts_and old (tally (take (length read) ops)) → new ≡ counts_by (Some ops) old
+replayed-counts old new ops read same is =
     let whole : take (length read) ops ≡ ops = rw same (take-length ops) in
     is ∙ rw whole refl
 

@@ -3,6 +3,7 @@ pub mod Starts
 pub mod Carried
 pub mod Returns
 pub mod Showing
+pub mod Failing
 pub mod Runs
 pub mod Modes
 pub mod Engine

@@ -6,16 +6,16 @@ use Rattle.rvv_meaning.specs.declared.Mode.TheVariants.{Running, Exited, Trapped
 use Rattle.rvv_meaning.specs.States.{is_running}
 use Rattle.machine.specs.declared.answers.Step.{Step}
 use Rattle.machine.specs.declared.answers.Step.TheVariants.{Ran, Exited as SaysExited, Trapped as SaysTrapped, Unbuilt as SaysUnbuilt}
-use Rattle.machine.specs.Answers.{answer_of}
+use Rattle.machine.specs.Answers.{step_for}
 
-pub ran_runs : (mode : Mode) (a : Step) → a ≡ answer_of mode → a ≡ Ran → mode ≡ Running
+pub ran_runs : (mode : Mode) (a : Step) → a ≡ step_for mode → a ≡ Ran → mode ≡ Running
 ran_runs Running a is ran = refl
 ran_runs (Exited c) a is ran = cc
 ran_runs (Trapped t) a is ran = cc
 ran_runs Unbuilt a is ran = cc
 
 -- any other answer is that of a machine that stopped
-pub others_stopped : (mode : Mode) (a : Step) → a ≡ answer_of mode → ((c : ℕ) × (a ≡ SaysExited c)) ⊎ (((t : Trap) × (a ≡ SaysTrapped t)) ⊎ (a ≡ SaysUnbuilt)) → is_running mode ≡ false
+pub others_stopped : (mode : Mode) (a : Step) → a ≡ step_for mode → ((c : ℕ) × (a ≡ SaysExited c)) ⊎ (((t : Trap) × (a ≡ SaysTrapped t)) ⊎ (a ≡ SaysUnbuilt)) → is_running mode ≡ false
 others_stopped Running a is (inl (c, said)) = cc
 others_stopped Running a is (inr (inl (t, said))) = cc
 others_stopped Running a is (inr (inr said)) = cc

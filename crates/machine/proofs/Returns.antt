@@ -41,11 +41,11 @@ pub called-exit : (c : Core) (taken : List ℕ) (code : ℕ) → flow_of (named_
 unfolding called
 called-exit c taken code is = ap (λ (mode : Mode). record (advanced (answered c taken)) { mode = mode }) (mode-exit (named_call c.regs) c.regs c.mode code is)
 
--- what follows of some facts of a result
-pub ok-three : {T E P Q R S : Type 0} (r : Result T E) → OnOk r P → OnOk r Q → OnOk r R → (P → Q → R → S) → OnOk r S
-ok-three (Ok t) p q r give = give p q r
-ok-three (Err e) p q r give = tt
+-- what follows of a fact of a result
+pub ok-one : {T E P Q : Type 0} (r : Result T E) → OnOk r P → (P → Q) → OnOk r Q
+ok-one (Ok t) p give = give p
+ok-one (Err e) p give = tt
 
-pub err-two : {T E P Q S : Type 0} (r : Result T E) → OnErr r P → OnErr r Q → (P → Q → S) → OnErr r S
-err-two (Ok t) p q give = tt
-err-two (Err e) p q give = give p q
+pub err-fact : {T E P : Type 0} (r : Result T E) → P → OnErr r P
+err-fact (Ok t) p = tt
+err-fact (Err e) p = p

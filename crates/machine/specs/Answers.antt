@@ -1,20 +1,18 @@
 -- How a machine answers.
-use Rattle.std.specs.Prelude.{Option, Some, None}
+use Rattle.std.specs.Prelude.{Option, Some, None, if◌then◌else◌}
 use Rattle.rvv_meaning.specs.declared.Mode.{Mode}
 use Rattle.rvv_meaning.specs.declared.Mode.TheVariants.{Running, Exited, Trapped, Unbuilt}
+use Rattle.rvv_meaning.specs.States.{is_running}
 use Rattle.machine.specs.declared.answers.Step.{Step}
 use Rattle.machine.specs.declared.answers.Step.TheVariants.{Ran, Exited as SaysExited, Trapped as SaysTrapped, Unbuilt as SaysUnbuilt}
 
 -- the answer for a mode
-abbrev pub answer_of : Mode → Step
-answer_of Running = Ran
-answer_of (Exited c) = SaysExited c
-answer_of (Trapped t) = SaysTrapped t
-answer_of Unbuilt = SaysUnbuilt
+abbrev pub step_for : Mode → Step
+step_for Running = Ran
+step_for (Exited c) = SaysExited c
+step_for (Trapped t) = SaysTrapped t
+step_for Unbuilt = SaysUnbuilt
 
 -- how a machine ended, where it does not run
 abbrev pub halt_of : Mode → Option Step
-halt_of Running = None
-halt_of (Exited c) = Some (SaysExited c)
-halt_of (Trapped t) = Some (SaysTrapped t)
-halt_of Unbuilt = Some SaysUnbuilt
+halt_of mode = if is_running mode then None else Some (step_for mode)

@@ -4,7 +4,8 @@ ghost use Rattle.bit_rows.specs.Slices.{blank};
 ghost use Rattle.cam_chain.specs.ChainValue.{slices_of, no_counts};
 ghost use Rattle.vtype_cfg.specs.Settings.{is_legal_vlen};
 ghost use Rattle.rvv_meaning.specs.Images.{start_core};
-ghost use Rattle.machine.specs.Answers.{answer_of, halt_of};
+ghost use Rattle.machine.specs.Answers.{step_for, halt_of};
+ghost use Rattle.machine.specs.Moments.{cleared_control};
 ghost use Rattle.machine.specs.Opening.{memory_of};
 
 use crate::answers::Step;
@@ -107,7 +108,7 @@ impl Machine {
         ensures slices { IfOk result (λ machine. slices_of machine.chain ≡ blank (vlen / 32)) }
         ensures counts { IfOk result (λ machine. machine.chain.counts ≡ no_counts) }
         ensures last { IfOk result (λ machine. machine.last ≡ []) }
-        ensures control { IfOk result (λ machine. machine.control ≡ record { num = 0; clip = false }) }
+        ensures control { IfOk result (λ machine. machine.control ≡ cleared_control) }
         ensures live { IfOk result (λ machine. machine.live ≡ true) }
         ensures running { IfOk result (λ machine. machine.core.mode ≡ Mode.Running) }
         ensures fresh { IfOk result (λ machine. machine.core.csrs.retired ≡ 0) }
@@ -241,7 +242,7 @@ impl Machine {
 
     // The answer for the mode.
     pub(crate) fn answer(&self) -> Step
-        ensures { result ≡ answer_of self.now.core.mode }
+        ensures { result ≡ step_for self.now.core.mode }
     {
         match self.mode {
             Mode::Running => Step::Ran,

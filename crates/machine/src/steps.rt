@@ -1,21 +1,18 @@
 // Steps and runs.
-ghost use Rattle.std.specs.Prelude.{◌≡◌, ◌+◌, ◌<◌, ◌≤◌, ◌^◌, ℕ, List, [], true, false, length, OnOk, OnErr, IfOk, IsErrOf};
-ghost use Rattle.std.specs.Io.KnownBytes.{Appends};
-ghost use Rattle.cape_io.specs.Devices.{PutsFront, Rose};
+ghost use Rattle.std.specs.Prelude.{◌≡◌, ◌+◌, ◌<◌, ◌≤◌, ◌^◌, [], true, false, is_ok, OnOk, OnErr, IfOk, IfErr, IsErrOf};
+ghost use Rattle.cape_io.specs.Views.{devices, views, KeepsFaults};
 ghost use Rattle.bit_laws.specs.Numbers.{low};
 ghost use Rattle.rv32_decode.specs.Spelling.{IsSpelled};
 ghost use Rattle.rvv_meaning.specs.declared.Meaning.TheVariants.{Scalar};
 ghost use Rattle.rvv_meaning.specs.declared.Next.TheVariants.{Perform};
-ghost use Rattle.rvv_meaning.specs.States.{next, retired_to, with_effect, effect_at, called, asked};
-ghost use Rattle.rvv_meaning.specs.Allowed.{Allowed};
-ghost use Rattle.rvv_meaning.specs.Calls.{first, named_call, asked_by, put_by};
-ghost use Rattle.guest_env.specs.Inputs.{Takes};
-ghost use Rattle.guest_env.specs.Outputs.{bytes_out, bytes_err, IsFaultOf};
-ghost use Rattle.guest_env.specs.Answers.{FailsReading, FailsWriting, IsWriting};
-ghost use Rattle.machine.specs.Answers.{answer_of};
+ghost use Rattle.rvv_meaning.specs.States.{next, retired_to, with_effect, effect_at};
+ghost use Rattle.rvv_meaning.specs.Calls.{first, second};
+ghost use Rattle.guest_env.specs.Outputs.{IsWritten};
+ghost use Rattle.guest_env.specs.Answers.{IsWriting};
+ghost use Rattle.machine.specs.Answers.{step_for};
 ghost use Rattle.machine.specs.Moments.{moment_after, moments};
-ghost use Rattle.machine.specs.Views.{CallsAt, GoesBy, FaultsIn, ReadsIn};
-ghost use Rattle.machine.specs.Carrying.{Carries, Fails};
+ghost use Rattle.machine.specs.Views.{CallsAt, GoesBy, FaultsIn, ReadsIn, StandsIn, EachStep, AsksNothing, AddsNoOut, AddsNoErr, gains_out, gains_err};
+ghost use Rattle.machine.specs.Carrying.{Carries, Calls, Fails, OneFault, LeavesAllowed, call_asked, call_out, call_err};
 
 use crate::answers::{DeviceFault, Step};
 use crate::parts::{Machine, WORD_BYTES};
@@ -49,8 +46,8 @@ impl Machine {
         self.csrs.retired += 1;
     }
 
-    // The place behind the word at pc.
-    pub(crate) fn behind(&self) -> u32
+    // The address after the word at pc.
+    pub(crate) fn next_pc(&self) -> u32
         ensures { result ≡ low 32 (self.now.core.pc + 4) }
     {
         self.pc.wrapping_add(WORD_BYTES)
@@ -77,28 +74,22 @@ impl Machine {
         merged: bool,
     ) -> Result<(), DeviceFault>
         requires count { self.old.core.csrs.retired < 2 ^ 63 }
-        ensures called { OnOk result ((taken : List ℕ) × Takes (asked_by (named_call self.old.core.regs) self.old.core.regs self.old.core.mem) (S.left input.old) (S.left input.new) taken
-            × (self.new ≡ record self.old { core = called self.old.core taken })) }
+        ensures called { OnOk result (Calls self.old self.new (devices S.Source O.Sink E.Sink input.old input.new out.old out.new err.old err.new)) }
         ensures count { OnOk result (self.new.core.csrs.retired ≤ self.old.core.csrs.retired + 1) }
         ensures length { self.new.core.csrs.vlen ≡ self.old.core.csrs.vlen }
-        ensures gained_out { OnOk result (Appends (O.held out.old) (O.held out.new) (bytes_out merged (first self.old.core.regs) (put_by (named_call self.old.core.regs) self.old.core.regs self.old.core.mem))) }
-        ensures gained_err { OnOk result (Appends (E.held err.old) (E.held err.new) (bytes_err merged (first self.old.core.regs) (put_by (named_call self.old.core.regs) self.old.core.regs self.old.core.mem))) }
+        ensures to_out { IsWritten O.Sink (second self.old.core.regs) (call_out merged self.old.core) (is_ok result) out.old out.new }
+        ensures to_err { IsWritten E.Sink (second self.old.core.regs) (call_err merged self.old.core) (is_ok result) err.old err.new }
         ensures stays { OnErr result (self.new ≡ record self.old { core = record self.old.core { mem = self.new.core.mem } }) }
-        ensures front_out { OnErr result (PutsFront (O.held out.old) (O.held out.new) (bytes_out merged (first self.old.core.regs) (put_by (named_call self.old.core.regs) self.old.core.regs self.old.core.mem))) }
-        ensures front_err { OnErr result (PutsFront (E.held err.old) (E.held err.new) (bytes_err merged (first self.old.core.regs) (put_by (named_call self.old.core.regs) self.old.core.regs self.old.core.mem))) }
-        ensures read_fault { IsErrOf result DeviceFault.ReadFault → FailsReading self.old.core.regs self.old.core.mem self.new.core.mem (S.left input.old) (S.left input.new) (S.faults input.old) (S.faults input.new) }
-        ensures write_fault { IsErrOf result DeviceFault.WriteFault → FailsWriting merged self.old.core.regs self.old.core.mem self.new.core.mem (O.faults out.old) (O.faults out.new) (E.faults err.old) (E.faults err.new) }
-        ensures later_input { S.faults input.old ≤ S.faults input.new }
-        ensures later_out { O.faults out.old ≤ O.faults out.new }
-        ensures later_err { E.faults err.old ≤ E.faults err.new }
+        ensures fails { IfErr result (Fails merged self.old.core self.new.core (devices S.Source O.Sink E.Sink input.old input.new out.old out.new err.old err.new)) }
+        ensures input_stays { call_asked self.old.core ≡ 0 → input.new ≡ input.old }
     {
         match call(&mut self.regs, &mut self.mem, input, out, err, merged) {
             Ok(EnvFlow::Back) => {
-                self.retire_to(self.behind());
+                self.retire_to(self.next_pc());
                 Ok(())
             }
             Ok(EnvFlow::Exit(code)) => {
-                self.retire_to(self.behind());
+                self.retire_to(self.next_pc());
                 self.mode = Mode::Exited(code);
                 Ok(())
             }
@@ -120,20 +111,19 @@ impl Machine {
         requires there { next self.old.core ≡ Perform (Scalar i.now) }
         requires empty { self.old.last ≡ [] }
         requires count { self.old.core.csrs.retired < 2 ^ 63 }
-        ensures carries { OnOk result ((taken : List ℕ) × Carries merged self.old self.new taken (S.left input.old) (S.left input.new) (O.held out.old) (O.held out.new) (E.held err.old) (E.held err.new)) }
+        ensures carries { OnOk result (Carries self.old self.new (devices S.Source O.Sink E.Sink input.old input.new out.old out.new err.old err.new)) }
         ensures count { OnOk result (self.new.core.csrs.retired ≤ self.old.core.csrs.retired + 1) }
         ensures length { self.new.core.csrs.vlen ≡ self.old.core.csrs.vlen }
+        ensures to_out { IsWritten O.Sink (second self.old.core.regs) (gains_out merged self.old.core) (is_ok result) out.old out.new }
+        ensures to_err { IsWritten E.Sink (second self.old.core.regs) (gains_err merged self.old.core) (is_ok result) err.old err.new }
         ensures stays { OnErr result (self.new ≡ record self.old { core = record self.old.core { mem = self.new.core.mem } }) }
-        ensures fails { OnErr result (Fails merged self.old (O.held out.old) (O.held out.new) (E.held err.old) (E.held err.new)) }
-        ensures read_fault { IsErrOf result DeviceFault.ReadFault → FailsReading self.old.core.regs self.old.core.mem self.new.core.mem (S.left input.old) (S.left input.new) (S.faults input.old) (S.faults input.new) }
-        ensures write_fault { IsErrOf result DeviceFault.WriteFault → FailsWriting merged self.old.core.regs self.old.core.mem self.new.core.mem (O.faults out.old) (O.faults out.new) (E.faults err.old) (E.faults err.new) }
-        ensures later_input { S.faults input.old ≤ S.faults input.new }
-        ensures later_out { O.faults out.old ≤ O.faults out.new }
-        ensures later_err { E.faults err.old ≤ E.faults err.new }
+        ensures calls { OnErr result (CallsAt self.old.core) }
+        ensures fails { IfErr result (Fails merged self.old.core self.new.core (devices S.Source O.Sink E.Sink input.old input.new out.old out.new err.old err.new)) }
+        ensures input_stays { AsksNothing self.old.core → input.new ≡ input.old }
     {
         match self.execute(i) {
             Flow::Next => {
-                self.retire_to(self.behind());
+                self.retire_to(self.next_pc());
                 Ok(())
             }
             Flow::Jump(target) => {
@@ -158,16 +148,15 @@ impl Machine {
     ) -> Result<(), DeviceFault>
         requires empty { self.old.last ≡ [] }
         requires count { self.old.core.csrs.retired < 2 ^ 63 }
-        ensures carries { OnOk result ((taken : List ℕ) × Carries merged self.old self.new taken (S.left input.old) (S.left input.new) (O.held out.old) (O.held out.new) (E.held err.old) (E.held err.new)) }
+        ensures carries { OnOk result (Carries self.old self.new (devices S.Source O.Sink E.Sink input.old input.new out.old out.new err.old err.new)) }
         ensures count { OnOk result (self.new.core.csrs.retired ≤ self.old.core.csrs.retired + 1) }
         ensures length { self.new.core.csrs.vlen ≡ self.old.core.csrs.vlen }
+        ensures to_out { IsWritten O.Sink (second self.old.core.regs) (gains_out merged self.old.core) (is_ok result) out.old out.new }
+        ensures to_err { IsWritten E.Sink (second self.old.core.regs) (gains_err merged self.old.core) (is_ok result) err.old err.new }
         ensures stays { OnErr result (self.new ≡ record self.old { core = record self.old.core { mem = self.new.core.mem } }) }
-        ensures fails { OnErr result (Fails merged self.old (O.held out.old) (O.held out.new) (E.held err.old) (E.held err.new)) }
-        ensures read_fault { IsErrOf result DeviceFault.ReadFault → FailsReading self.old.core.regs self.old.core.mem self.new.core.mem (S.left input.old) (S.left input.new) (S.faults input.old) (S.faults input.new) }
-        ensures write_fault { IsErrOf result DeviceFault.WriteFault → FailsWriting merged self.old.core.regs self.old.core.mem self.new.core.mem (O.faults out.old) (O.faults out.new) (E.faults err.old) (E.faults err.new) }
-        ensures later_input { S.faults input.old ≤ S.faults input.new }
-        ensures later_out { O.faults out.old ≤ O.faults out.new }
-        ensures later_err { E.faults err.old ≤ E.faults err.new }
+        ensures calls { OnErr result (CallsAt self.old.core) }
+        ensures fails { IfErr result (Fails merged self.old.core self.new.core (devices S.Source O.Sink E.Sink input.old input.new out.old out.new err.old err.new)) }
+        ensures input_stays { AsksNothing self.old.core → input.new ≡ input.old }
     {
         match self.next() {
             Next::Stop(mode) => {
@@ -197,28 +186,32 @@ impl Machine {
         requires running { self.old.core.mode ≡ Mode.Running }
         requires count { self.old.core.csrs.retired < 2 ^ 63 }
 
-        // What the machine becomes, whatever the devices tell.
-        ensures carries { OnOk result ((taken : List ℕ) × Carries merged self.old self.new taken (S.left input.old) (S.left input.new) (O.held out.old) (O.held out.new) (E.held err.old) (E.held err.new)) }
+        // What the machine becomes, whatever is known of the devices.
+        ensures carries { OnOk result (Carries self.old self.new (devices S.Source O.Sink E.Sink input.old input.new out.old out.new err.old err.new)) }
         ensures live { OnOk result (self.new.live ≡ true) }
         ensures count { OnOk result (self.new.core.csrs.retired ≤ self.old.core.csrs.retired + 1) }
         ensures length { self.new.core.csrs.vlen ≡ self.old.core.csrs.vlen }
-        ensures answer { IfOk result (λ answer. answer ≡ answer_of self.new.core.mode) }
+        ensures answer { IfOk result (λ answer. answer ≡ step_for self.new.core.mode) }
 
         // Agnostic elements are as the standard permits, whatever the policy is.
-        ensures allowed { OnOk result ((taken : List ℕ) × Takes (asked self.old.core) (S.left input.old) (S.left input.new) taken × Allowed self.old.core taken self.new.core) }
+        ensures allowed { OnOk result (LeavesAllowed self.old.core self.new.core (S.left input.old) (S.left input.new)) }
 
         // The moment after is that of one step from the moment before.
-        ensures goes { OnOk result (GoesBy moment_after merged self.old self.new (S.left input.old) (S.left input.new) (O.held out.old) (O.held out.new) (E.held err.old) (E.held err.new)) }
+        ensures goes { OnOk result (GoesBy moment_after merged self.old self.new (devices S.Source O.Sink E.Sink input.old input.new out.old out.new err.old err.new)) }
 
         // What stands after a device fault, and its cause.
         ensures stays { OnErr result (self.new ≡ record self.old { core = record self.old.core { mem = self.new.core.mem }; last = []; live = false }) }
         ensures calls { OnErr result (CallsAt self.old.core) }
-        ensures fronts { OnErr result (FaultsIn moment_after merged self.old (S.left input.old) (O.held out.old) (O.held out.new) (E.held err.old) (E.held err.new)) }
-        ensures read_fault { IsErrOf result DeviceFault.ReadFault → FailsReading self.old.core.regs self.old.core.mem self.new.core.mem (S.left input.old) (S.left input.new) (S.faults input.old) (S.faults input.new) }
-        ensures write_fault { IsErrOf result DeviceFault.WriteFault → FailsWriting merged self.old.core.regs self.old.core.mem self.new.core.mem (O.faults out.old) (O.faults out.new) (E.faults err.old) (E.faults err.new) }
-        ensures later_input { S.faults input.old ≤ S.faults input.new }
-        ensures later_out { O.faults out.old ≤ O.faults out.new }
-        ensures later_err { E.faults err.old ≤ E.faults err.new }
+        ensures fails { IfErr result (Fails merged self.old.core self.new.core (devices S.Source O.Sink E.Sink input.old input.new out.old out.new err.old err.new)) }
+        ensures prefixes { OnErr result (FaultsIn moment_after merged self.old (devices S.Source O.Sink E.Sink input.old input.new out.old out.new err.old err.new)) }
+
+        // What each device is given: a device that the step does not ask stays as it was.
+        ensures to_out { IsWritten O.Sink (second self.old.core.regs) (gains_out merged self.old.core) (is_ok result) out.old out.new }
+        ensures to_err { IsWritten E.Sink (second self.old.core.regs) (gains_err merged self.old.core) (is_ok result) err.old err.new }
+        ensures quiet { OnOk result (KeepsFaults (devices S.Source O.Sink E.Sink input.old input.new out.old out.new err.old err.new)) }
+        ensures input_stays { AsksNothing self.old.core → input.new ≡ input.old }
+        ensures out_stays { AddsNoOut merged self.old.core → out.new ≡ out.old }
+        ensures err_stays { AddsNoErr merged self.old.core → err.new ≡ err.old }
     {
         self.forget();
         match self.carry_out(input, out, err, merged) {
@@ -244,21 +237,29 @@ impl Machine {
         requires running { self.old.core.mode ≡ Mode.Running }
         requires budget { n ≤ 1000000000000 }
         requires count { self.old.core.csrs.retired + n ≤ 2 ^ 63 }
-        ensures goes { OnOk result (GoesBy (λ m. moments m n) merged self.old self.new (S.left input.old) (S.left input.new) (O.held out.old) (O.held out.new) (E.held err.old) (E.held err.new)) }
+        ensures goes { OnOk result (GoesBy (λ m. moments m n) merged self.old self.new (devices S.Source O.Sink E.Sink input.old input.new out.old out.new err.old err.new)) }
         ensures live { OnOk result (self.new.live ≡ true) }
         ensures count { OnOk result (self.new.core.csrs.retired ≤ self.old.core.csrs.retired + n) }
         ensures length { self.new.core.csrs.vlen ≡ self.old.core.csrs.vlen }
-        ensures answer { IfOk result (λ answer. answer ≡ answer_of self.new.core.mode) }
+        ensures answer { IfOk result (λ answer. answer ≡ step_for self.new.core.mode) }
 
         // What stands after a device fault, and its cause.
-        ensures fronts { OnErr result (FaultsIn (λ m. moments m n) merged self.old (S.left input.old) (O.held out.old) (O.held out.new) (E.held err.old) (E.held err.new)) }
-        ensures read_cause { IsErrOf result DeviceFault.ReadFault → Rose (S.faults input.old) (S.faults input.new) }
-        ensures reads { IsErrOf result DeviceFault.ReadFault → ReadsIn n merged self.old (S.left input.old) (O.held out.old) (E.held err.old) }
-        ensures write_cause { IsErrOf result DeviceFault.WriteFault → IsFaultOf merged (first self.new.core.regs) (O.faults out.old) (O.faults out.new) (E.faults err.old) (E.faults err.new) }
+        ensures not_live { OnErr result (self.new.live ≡ false) }
+        ensures no_program { OnErr result (self.new.last ≡ []) }
+        ensures stands { IfErr result (StandsIn n merged self.old self.new (devices S.Source O.Sink E.Sink input.old input.new out.old out.new err.old err.new)) }
+        ensures prefixes { OnErr result (FaultsIn (λ m. moments m n) merged self.old (devices S.Source O.Sink E.Sink input.old input.new out.old out.new err.old err.new)) }
+        ensures reads { IsErrOf result DeviceFault.ReadFault → ReadsIn n merged self.old (views S.Source O.Sink E.Sink input.old out.old err.old) }
         ensures write_at { IsErrOf result DeviceFault.WriteFault → CallsAt self.new.core × IsWriting self.new.core.regs self.new.core.mem }
-        ensures later_input { S.faults input.old ≤ S.faults input.new }
-        ensures later_out { O.faults out.old ≤ O.faults out.new }
-        ensures later_err { E.faults err.old ≤ E.faults err.new }
+
+        // What each device is given: one count of faults rises by one at a fault, and none else.
+        ensures quiet { OnOk result (KeepsFaults (devices S.Source O.Sink E.Sink input.old input.new out.old out.new err.old err.new)) }
+        ensures cause { IfErr result (λ fault. OneFault fault merged (first self.new.core.regs) (devices S.Source O.Sink E.Sink input.old input.new out.old out.new err.old err.new)) }
+
+        // A device that no step asks stays as it was.
+        ensures input_stays { EachStep AsksNothing n merged self.old (views S.Source O.Sink E.Sink input.old out.old err.old) → input.new ≡ input.old }
+        ensures out_stays { EachStep (AddsNoOut merged) n merged self.old (views S.Source O.Sink E.Sink input.old out.old err.old) → out.new ≡ out.old }
+        ensures err_stays { EachStep (AddsNoErr merged) n merged self.old (views S.Source O.Sink E.Sink input.old out.old err.old) → err.new ≡ err.old }
+        ensures merged_out { merged ≡ true → out.new ≡ out.old }
     {
         for i in 0..n {
             let answer = self.step(input, out, err, merged)?;

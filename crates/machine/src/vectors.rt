@@ -1,5 +1,6 @@
 // Vector instructions: configurations, and programs of micro-operations.
 ghost use Rattle.std.specs.Prelude.{◌≡◌, ◌+◌, ◌<◌, ◌≤◌, ◌^◌, ℕ, List, [], Some, true, length, IsTrue, Bool, Option};
+ghost use Rattle.cape_io.specs.Views.{DeviceViews};
 ghost use Rattle.cam_chain.specs.ChainValue.{slices_of};
 ghost use Rattle.rvv_meaning.specs.declared.Meaning.TheVariants.{Vector};
 ghost use Rattle.rvv_meaning.specs.declared.Next.TheVariants.{Perform};
@@ -8,10 +9,9 @@ ghost use Rattle.vtype_cfg.specs.Settings.{is_valid};
 ghost use Rattle.rvv_decode.specs.declared.instruction.VOp.TheVariants.{Config};
 ghost use Rattle.rvv_meaning.specs.States.{next, cfg_at, executed_vector};
 ghost use Rattle.rvv_meaning.specs.Vectors.{length_asked, length_of_register, setting_asked, scalar_operand, is_on_elements};
-ghost use Rattle.vec_exec.specs.Programs.{prog};
 ghost use Rattle.machine.specs.Fields.{VectorFits};
-ghost use Rattle.machine.specs.Moments.{slices_by, control_by};
-ghost use Rattle.machine.specs.Carrying.{Carries};
+ghost use Rattle.machine.specs.Moments.{program_for, slices_by, counts_by, control_by};
+ghost use Rattle.machine.specs.Carrying.{CarriesTaking};
 
 use crate::parts::{CLEARED, Machine, WORD_BYTES};
 use micro_ir::replay;
@@ -86,7 +86,7 @@ impl Machine {
         self.csrs.vl = vl;
         self.csrs.vtype = vtype.bits();
         self.regs.set(i.vd, vl);
-        self.retire_to(self.behind());
+        self.retire_to(self.next_pc());
     }
 
     // The scalar that an instruction takes.
@@ -107,9 +107,10 @@ impl Machine {
         requires empty { self.old.last ≡ [] }
         requires count { self.old.core.csrs.retired < 2 ^ 63 }
         ensures core { self.new.core ≡ executed_vector i.now self.old.core }
-        ensures slices { slices_of self.new.chain ≡ slices_by (Some (prog i.now (cfg_at self.old.core) (scalar_operand i.now self.old.core.regs))) (slices_of self.old.chain) }
-        ensures last { self.new.last ≡ prog i.now (cfg_at self.old.core) (scalar_operand i.now self.old.core.regs) }
-        ensures control { self.new.control ≡ control_by (Some (prog i.now (cfg_at self.old.core) (scalar_operand i.now self.old.core.regs))) (slices_of self.old.chain) self.old.control }
+        ensures slices { slices_of self.new.chain ≡ slices_by (Some (program_for i.now self.old.core)) (slices_of self.old.chain) }
+        ensures last { self.new.last ≡ program_for i.now self.old.core }
+        ensures counts { self.new.chain.counts ≡ counts_by (Some (program_for i.now self.old.core)) self.old.chain.counts }
+        ensures control { self.new.control ≡ control_by (Some (program_for i.now self.old.core)) (slices_of self.old.chain) self.old.control }
         ensures live { self.new.live ≡ self.old.live }
     {
         let scalar = self.scalar_of(i);
@@ -130,7 +131,7 @@ impl Machine {
         requires there { next self.old.core ≡ Perform (Vector i.now) }
         requires empty { self.old.last ≡ [] }
         requires count { self.old.core.csrs.retired < 2 ^ 63 }
-        ensures carries { (merged : Bool) (left out err : Option (List ℕ)) → Carries merged self.old self.new [] left left out out err err }
+        ensures carries { (v : DeviceViews) → CarriesTaking self.old self.new [] (record { old = v; new = v }) }
         ensures count { self.new.core.csrs.retired ≤ self.old.core.csrs.retired + 1 }
         ensures length { self.new.core.csrs.vlen ≡ self.old.core.csrs.vlen }
     {

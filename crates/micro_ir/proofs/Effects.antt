@@ -8,7 +8,8 @@ use Rattle.micro_ir.specs.WorkRows.{active_row, broadcast_row}
 use Rattle.micro_ir.specs.Pieces.{above, below, clear, commit, ups, downs, broadcast}
 use Rattle.micro_ir.specs.Effects.{Makes, Clears, Commits, Broadcasts, Costs}
 use Rattle.micro_ir.proofs.Lift.{element-outside, replay-columns, replay-num, micros-element}
-use Rattle.micro_ir.proofs.OneElement.{hit, fires-hit, step-row, clear-here, commit-here, commit-row, everywhere-fits, commit-fits, above-else, above-here, above-fits, below-else, below-here, below-fits}
+use Rattle.micro_ir.proofs.OneElement.{hit, fires-hit, step-row, clear-here, commit-here, commit-row, clear-fits, commit-fits, above-else, above-here, above-fits, below-else, below-here, below-fits}
+use Rattle.micro_ir.proofs.Folds.{copy-whole}
 use Rattle.micro_ir.proofs.PieceLists.{clear-list, commit-list}
 use Rattle.micro_ir.proofs.StepLists.{micros-one, steps_on-append, AllFit-append, RowsFit, RowsFit-append, AllInRange-micros, steps_counts, steps_counts-append, tally-micro, tally-micros, steps_length, steps_length-append, length-micros}
 
@@ -43,7 +44,7 @@ pub clears : (w row : ℕ) → 0 < w → Clears row (micro w (clear w row))
 unfolding steps_on
 clears w row some v wide =
     rw (clear-list w row some ∙ sym (clear-list v row wide) ∙ sym (micros-one v (clear v row)))
-    (makes v _ (clear v row ∷ []) (everywhere-fits v [] (0 ∷ []) row false, tt) inside (λ e r i l none. rw (le-ltb i v l, none r) (none_of (eqb r row) false false)))
+    (makes v _ (clear v row ∷ []) (clear-fits v row, tt) inside (λ e r i l none. rw (le-ltb i v l, none r) (none_of (eqb r row) false false)))
   where
     inside : (e : ℕ → ℕ → Bool) (r i : ℕ) → i < v → steps_on (clear v row ∷ []) e r i ≡ cond (eqb r row && ltb i v) false (e r i)
     inside e r i l = ⊎_elim
@@ -52,10 +53,10 @@ clears w row some v wide =
         (cases_eq r row)
 
 -- a row is committed
-pub commits : (w row to : ℕ) → 0 < w → row ≢ to → to ≢ active_row → Commits row to (micros w (commit w row to))
-commits w row to some other passive v wide =
-    rw (commit-list w row to some ∙ sym (commit-list v row to wide))
-    (makes v _ (commit v row to) (commit-fits v row to) inside (λ e r i l none. rw (none active_row, none r) (none_of (eqb r to) (e row i) false)))
+pub commits : (w row to : ℕ) → 0 < w → row ≢ active_row → row ≢ to → to ≢ active_row → Commits row to (micros w (commit w row to))
+commits w row to some work other passive v wide =
+    rw (commit-list w row to some work ∙ sym (commit-list v row to wide work))
+    (makes v _ (commit v row to) (commit-fits v row to work) inside (λ e r i l none. rw (none active_row, none r) (none_of (eqb r to) (e row i) false)))
   where
     inside : (e : ℕ → ℕ → Bool) (r i : ℕ) → i < v → steps_on (commit v row to) e r i ≡ cond (eqb r to && e active_row i) (e row i) (e r i)
     inside e r i l = ⊎_elim
@@ -70,11 +71,11 @@ copied true = refl
 copied false = refl
 
 -- to a clear place above it
-above-copy : (from out j times : ℕ) (e : ℕ → ℕ → Bool) → e out (j + times) ≡ false → step_on (above (from ∷ []) (1 ∷ []) out j times) e out (j + times) ≡ e from j
+pub above-copy : (from out j times : ℕ) (e : ℕ → ℕ → Bool) → e out (j + times) ≡ false → step_on (above (from ∷ []) (1 ∷ []) out j times) e out (j + times) ≡ e from j
 above-copy from out j times e clear = above-here (from ∷ []) (1 ∷ []) out j times e ∙ rw (clear, fires-hit (from ∷ []) (1 ∷ []) (λ r. e r j)) (copied (e from j))
 
 -- to a clear place below it
-below-copy : (from out j times : ℕ) (e : ℕ → ℕ → Bool) → e out j ≡ false → step_on (below (from ∷ []) (1 ∷ []) out (j + times) times) e out j ≡ e from (j + times)
+pub below-copy : (from out j times : ℕ) (e : ℕ → ℕ → Bool) → e out j ≡ false → step_on (below (from ∷ []) (1 ∷ []) out (j + times) times) e out j ≡ e from (j + times)
 below-copy from out j times e clear =
     below-here (from ∷ []) (1 ∷ []) out j times e ∙ rw (clear, fires-hit (from ∷ []) (1 ∷ []) (λ r. e r (j + times))) (copied (e from (j + times)))
 
@@ -118,7 +119,7 @@ pub ups-fit : (w row j n : ℕ) → j + n < w → AllFit w (ups row j n)
 unfolding ups
 ups-fit w row j zero inside = tt
 ups-fit w row j (suc n) inside =
-    AllFit-append w (ups row j n) (above (row ∷ []) (1 ∷ []) row (j + n) 1 ∷ []) (ups-fit w row j n (omega arith)) (above-fits w (row ∷ []) (1 ∷ []) row (j + n) 1 (omega arith), tt)
+    AllFit-append w (ups row j n) (above (row ∷ []) (1 ∷ []) row (j + n) 1 ∷ []) (ups-fit w row j n (omega arith)) (above-fits w (row ∷ []) (1 ∷ []) row (j + n) 1 (omega arith) (inl (copy-whole row)), tt)
 
 -- the places from the bit on stay
 pub downs-above : (row n : ℕ) (e : ℕ → ℕ → Bool) (r i : ℕ) → n ≤ i → steps_on (downs row n) e r i ≡ e r i
@@ -155,12 +156,12 @@ downs-here row (suc n) e clear i low =
 pub downs-fit : (w row n : ℕ) → n < w → AllFit w (downs row n)
 unfolding downs
 downs-fit w row zero inside = tt
-downs-fit w row (suc n) inside = (below-fits w (row ∷ []) (1 ∷ []) row (suc n) 1 (omega arith) inside, downs-fit w row n (omega arith))
+downs-fit w row (suc n) inside = (below-fits w (row ∷ []) (1 ∷ []) row (suc n) 1 (omega arith) inside (inl (copy-whole row)), downs-fit w row n (omega arith))
 
 -- ---- a broadcast
 
 -- the broadcast row once the bit stands in it alone
-broadcast-on : (w from j : ℕ) (e : ℕ → ℕ → Bool) → j < w → from ≢ broadcast_row → (r i : ℕ) → i < w
+pub broadcast-on : (w from j : ℕ) (e : ℕ → ℕ → Bool) → j < w → from ≢ broadcast_row → (r i : ℕ) → i < w
     → steps_on (broadcast w from j) e r i ≡ cond (eqb r broadcast_row && ltb i w) (e from j) (e r i)
 unfolding steps_on broadcast
 broadcast-on w from j e below other r i inside =
@@ -192,12 +193,12 @@ broadcast-on w from j e below other r i inside =
     ∙ step-row (above (from ∷ []) (1 ∷ []) broadcast_row j 0) e1 r i apart ∙ step-row (clear w broadcast_row) e r i apart))
     (cases_eq r broadcast_row))
 
-broadcast-fits : (w from j : ℕ) → j < w → AllFit w (broadcast w from j)
+pub broadcast-fits : (w from j : ℕ) → j < w → AllFit w (broadcast w from j)
 unfolding broadcast
 broadcast-fits w from j below = (
-  everywhere-fits w [] (0 ∷ []) broadcast_row false,
+  clear-fits w broadcast_row,
   (
-    above-fits w (from ∷ []) (1 ∷ []) broadcast_row j 0 (omega arith),
+    above-fits w (from ∷ []) (1 ∷ []) broadcast_row j 0 (omega arith) (inl (copy-whole from)),
     AllFit-append w (ups broadcast_row j (w - 1 - j)) (downs broadcast_row j) (ups-fit w broadcast_row j (w - 1 - j) (omega arith)) (downs-fit w broadcast_row j below),
   ),
 )

@@ -1,6 +1,7 @@
 -- Lemmas on lists of operations and on steps.
 pub mod Lists
 pub mod Subs
+pub mod Folds
 pub mod Lift
 pub mod StepLists
 pub mod OneElement

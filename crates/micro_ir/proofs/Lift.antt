@@ -1,9 +1,8 @@
 -- A list of steps acts on each element by itself.
-use Rattle.std.proofs.Common.{◌≡◌, ℕ, ◌+◌, ◌-◌, ◌*◌, ◌<◌, ◌≤◌, Bool, true, false, cond, ◌&&◌, ◌||◌, eqb, ltb, leb, List, [], ◌∷◌, ◌++◌, zero, suc, refl, sym, ◌∙◌, ap, arith, ⊎_elim}
+use Rattle.std.proofs.Common.{◌≡◌, ℕ, ◌+◌, ◌-◌, ◌*◌, ◌<◌, ◌≤◌, Bool, true, false, cond, ◌&&◌, ◌||◌, eqb, ltb, leb, List, [], ◌∷◌, ◌++◌, length, zero, suc, refl, sym, ◌∙◌, ap, arith, ⊎_elim}
 use Rattle.std.proofs.lemmas.Bool.{cases_lt, cases_Bool, lt-ltb, le-ltb, leb-true, le-leb, and_parts}
 use Rattle.micro_ir.proofs.Lists.{replay-append}
 use Rattle.micro_ir.proofs.Subs.{selected-of}
-use Rattle.cam_chain.specs.KeyPairs.{keys_of}
 use Rattle.bit_rows.specs.Slices.{Slices, placed}
 use Rattle.cam_chain.specs.Slices.{selected, matches, searched, updated, passed}
 use Rattle.micro_ir.specs.declared.op.MicroOp.{MicroOp}
@@ -11,19 +10,21 @@ use Rattle.micro_ir.specs.declared.op.MicroOp.TheVariants.{Search, Update, Pass,
 use Rattle.micro_ir.specs.Replay.{effect, replay}
 use Rattle.steer_net.specs.Network.{windowed, freed, packed}
 use Rattle.micro_ir.specs.Subs.{subs_of}
-use Rattle.micro_ir.specs.Steps.{Step, searches, fires, moved, source, pass_of, micro_from, micro, micros, Fits, AllFit, element, step_on, steps_on}
+use Rattle.micro_ir.specs.Folding.{has_whole, table_keys, searches_for, any_match}
+use Rattle.micro_ir.proofs.Folds.{table-count, table-writes}
+use Rattle.micro_ir.specs.Steps.{Step, fires, moved, source, pass_of, micro_from, micro, micros, Fits, AllFit, element, step_on, steps_on}
 
 -- searches leave the bits
-pub searches-bit : (subs : ℕ) (inputs : List ℕ) (join : Bool) (ts : List ℕ) (s : Slices) → (replay (searches subs inputs join ts) s).bit ≡ s.bit
+pub searches-bit : (subs : ℕ) (join : Bool) (keys : List (List (ℕ × Bool))) (s : Slices) → (replay (searches_for subs join keys) s).bit ≡ s.bit
 unfolding replay
-searches-bit subs inputs join [] s = refl
-searches-bit subs inputs join (t ∷ ts) s = searches-bit subs inputs true ts (searched subs (keys_of inputs t) join s)
+searches-bit subs join [] s = refl
+searches-bit subs join (k ∷ ks) s = searches-bit subs true ks (searched subs k join s)
 
 -- searches leave the columns
-pub searches-columns : (subs : ℕ) (inputs : List ℕ) (join : Bool) (ts : List ℕ) (s : Slices) → (replay (searches subs inputs join ts) s).columns ≡ s.columns
+pub searches-columns : (subs : ℕ) (join : Bool) (keys : List (List (ℕ × Bool))) (s : Slices) → (replay (searches_for subs join keys) s).columns ≡ s.columns
 unfolding replay
-searches-columns subs inputs join [] s = refl
-searches-columns subs inputs join (t ∷ ts) s = searches-columns subs inputs true ts (searched subs (keys_of inputs t) join s)
+searches-columns subs join [] s = refl
+searches-columns subs join (k ∷ ks) s = searches-columns subs true ks (searched subs k join s)
 
 or_swap : (f m t : Bool) → f || (m || t) ≡ (m || f) || t
 or_swap true true t = refl
@@ -32,13 +33,13 @@ or_swap false true t = refl
 or_swap false false t = refl
 
 -- a tag after searches that join
-pub joined-tag : (subs : ℕ) (inputs : List ℕ) (ts : List ℕ) (s : Slices) (sub col : ℕ) → placed s.columns sub col ≡ true → selected subs sub ≡ true
-    → (replay (searches subs inputs true ts) s).tag sub col ≡ fires inputs ts (λ row. s.bit sub row col) || s.tag sub col
+pub joined-tag : (subs : ℕ) (keys : List (List (ℕ × Bool))) (s : Slices) (sub col : ℕ) → placed s.columns sub col ≡ true → selected subs sub ≡ true
+    → (replay (searches_for subs true keys) s).tag sub col ≡ any_match keys (λ row. s.bit sub row col) || s.tag sub col
 unfolding replay
-joined-tag subs inputs [] s sub col p q = refl
-joined-tag subs inputs (t ∷ ts) s sub col p q =
-    joined-tag subs inputs ts (searched subs (keys_of inputs t) true s) sub col p q
-    ∙ rw (p, q) (or_swap (fires inputs ts (λ row. s.bit sub row col)) (matches (λ row. s.bit sub row col) (keys_of inputs t)) (s.tag sub col))
+joined-tag subs [] s sub col p q = refl
+joined-tag subs (k ∷ ks) s sub col p q =
+    joined-tag subs ks (searched subs k true s) sub col p q
+    ∙ rw (p, q) (or_swap (any_match ks (λ row. s.bit sub row col)) (matches (λ row. s.bit sub row col) k) (s.tag sub col))
 
 or_turn : (f m : Bool) → f || (m || false) ≡ m || f
 or_turn true true = refl
@@ -47,12 +48,13 @@ or_turn false true = refl
 or_turn false false = refl
 
 -- a tag after searches of which the first does not join
-pub fresh-tag : (subs : ℕ) (inputs : List ℕ) (t : ℕ) (ts : List ℕ) (s : Slices) (sub col : ℕ) → placed s.columns sub col ≡ true → selected subs sub ≡ true
-    → (replay (searches subs inputs false (t ∷ ts)) s).tag sub col ≡ fires inputs (t ∷ ts) (λ row. s.bit sub row col)
+pub fresh-tag : (subs : ℕ) (keys : List (List (ℕ × Bool))) (s : Slices) (sub col : ℕ) → 0 < length keys → placed s.columns sub col ≡ true → selected subs sub ≡ true
+    → (replay (searches_for subs false keys) s).tag sub col ≡ any_match keys (λ row. s.bit sub row col)
 unfolding replay
-fresh-tag subs inputs t ts s sub col p q =
-    joined-tag subs inputs ts (searched subs (keys_of inputs t) false s) sub col p q
-    ∙ rw (p, q) (or_turn (fires inputs ts (λ row. s.bit sub row col)) (matches (λ row. s.bit sub row col) (keys_of inputs t)))
+fresh-tag subs [] s sub col some p q = absurd (omega arith)
+fresh-tag subs (k ∷ ks) s sub col some p q =
+    joined-tag subs ks (searched subs k false s) sub col p q
+    ∙ rw (p, q) (or_turn (any_match ks (λ row. s.bit sub row col)) (matches (λ row. s.bit sub row col) k))
 
 -- a place of the chain
 pub place_true : (n sub col : ℕ) → sub < 32 → col < n → placed n sub col ≡ true
@@ -112,7 +114,7 @@ source_in w step j h = source_in_by step.up step.times step.at j h
 -- what Fits says at the place of the inputs, told at the place of the output
 moved_fits : (w : ℕ) (step : Step) (j : ℕ) → Fits w step → moved step j ≡ true →
     (source step j < w) × (j < w) × (cond step.up step.times 0 ≤ j)
-moved_fits w step j f h = moved_fits_by w step.up step.times step.at j f h
+moved_fits w step j f h = moved_fits_by w step.up step.times step.at j f.inside h
 
 -- a guarded write, as the step tells it
 shape : (p sel m e t f b o : Bool) → p ≡ true → sel ≡ m → (m ≡ true → t ≡ f) → cond (p && sel && e && t) b o ≡ cond (e && m && f) b o
@@ -131,25 +133,26 @@ pub element-outside : (w k col : ℕ) (s : Slices) (row j : ℕ) → w ≤ j →
 unfolding element
 element-outside w k col s row j h = rw (le-ltb j w h) refl
 
--- one bit of an element after a step
-micro-bit : (w k col : ℕ) (step : Step) (t : ℕ) (ts : List ℕ) (s : Slices) → Fits w step → k * w + w ≤ 32 → col < s.columns → (row j : ℕ) → j < w
+-- one bit of an element after a step, by its keys
+keys-bit : (w k col : ℕ) (step : Step) (t : ℕ) (ts : List ℕ) (s : Slices) → Fits w step → k * w + w ≤ 32 → col < s.columns → (row j : ℕ) → j < w
     → (replay (micro_from w step (t ∷ ts)) s).bit (k * w + j) row col
-    ≡ cond (eqb row step.out && moved step j && fires step.inputs (t ∷ ts) (λ r. element w k col s r (source step j))) step.bit (s.bit (k * w + j) row col)
+    ≡ cond (eqb row step.out && moved step j && any_match (table_keys step.inputs (t ∷ ts) step.out) (λ r. element w k col s r (source step j))) step.bit (s.bit (k * w + j) row col)
 unfolding replay
-micro-bit w k col step t ts s f q c row j h =
-    let found = searches (subs_of w step.at) step.inputs false (t ∷ ts) in
+keys-bit w k col step t ts s f q c row j h =
+    let keys = table_keys step.inputs (t ∷ ts) step.out in
+    let found = searches_for (subs_of w step.at) false keys in
     let shift = pass_of step.up step.times in
     let last = Update (subs_of w (moved step)) step.out step.bit in
     let s1 = replay found s in
     let s2 = replay shift s1 in
-    let cols : s2.columns ≡ s.columns = passed-columns step.up step.times s1 ∙ searches-columns (subs_of w step.at) step.inputs false (t ∷ ts) s in
-    let bits : s2.bit ≡ s.bit = passed-bit step.up step.times s1 ∙ searches-bit (subs_of w step.at) step.inputs false (t ∷ ts) s in
-    let cols1 : s1.columns ≡ s.columns = searches-columns (subs_of w step.at) step.inputs false (t ∷ ts) s in
+    let cols : s2.columns ≡ s.columns = passed-columns step.up step.times s1 ∙ searches-columns (subs_of w step.at) false keys s in
+    let bits : s2.bit ≡ s.bit = passed-bit step.up step.times s1 ∙ searches-bit (subs_of w step.at) false keys s in
+    let cols1 : s1.columns ≡ s.columns = searches-columns (subs_of w step.at) false keys s in
     let e : replay (found ++ (shift ++ last ∷ [])) s ≡ effect last s2 = replay-append found (shift ++ last ∷ []) s ∙ replay-append shift (last ∷ []) s1 in
     let old : s2.bit (k * w + j) row col ≡ s.bit (k * w + j) row col = ap (λ (g : ℕ → ℕ → ℕ → Bool). g (k * w + j) row col) bits in
     ap (λ (z : Slices). z.bit (k * w + j) row col) e
     ∙ rw old (shape (placed s2.columns (k * w + j) col) (selected (subs_of w (moved step)) (k * w + j)) (moved step j) (eqb row step.out) (s2.tag (k * w + j) col)
-    (fires step.inputs (t ∷ ts) (λ r. element w k col s r (source step j))) step.bit (s.bit (k * w + j) row col)
+    (any_match keys (λ r. element w k col s r (source step j))) step.bit (s.bit (k * w + j) row col)
     (rw cols (place_true s.columns (k * w + j) col (omega arith) c))
     (selected-of w (moved step) k j h q)
     (λ m.
@@ -159,10 +162,35 @@ micro-bit w k col step t ts s f q c row j h =
     let same : (λ (r : ℕ). s.bit (k * w + source step j) r col) ≡ (λ (r : ℕ). element w k col s r (source step j)) =
     λ i r. sym (element-inside w k col s r (source step j) fit.0) i in
     passed-tag step.up step.times k w j col s1 q h c1 fit.0 fit.2
-    ∙ (fresh-tag (subs_of w step.at) step.inputs t ts s (k * w + source step j) col
+    ∙ (fresh-tag (subs_of w step.at) keys s (k * w + source step j) col (table-count step.inputs t ts step.out)
     (place_true s.columns (k * w + source step j) col src c)
     (selected-of w step.at k (source step j) fit.0 q ∙ source_in w step j m)
-    ∙ ap (λ (g : ℕ → Bool). fires step.inputs (t ∷ ts) g) same)))
+    ∙ ap (λ (g : ℕ → Bool). any_match keys g) same)))
+
+none_whole : (x : Bool) → x ≡ true → x ≡ false → ⊥
+none_whole true p q = cc
+none_whole false p q = cc
+
+-- a step that does not move reads where it writes
+still_source : (step : Step) (j : ℕ) → step.times ≡ 0 → source step j ≡ j
+still_source step j none = rw none (by step.up)
+  where
+    by : (up : Bool) → cond up (j - 0) (j + 0) ≡ j
+    by true = omega arith
+    by false = omega arith
+
+-- the same, by its values
+pub micro-bit : (w k col : ℕ) (step : Step) (t : ℕ) (ts : List ℕ) (s : Slices) → step.on ≡ t ∷ ts → Fits w step → k * w + w ≤ 32 → col < s.columns → (row j : ℕ) → j < w
+    → (replay (micro_from w step (t ∷ ts)) s).bit (k * w + j) row col
+    ≡ cond (eqb row step.out && moved step j && fires step.inputs (t ∷ ts) (λ r. element w k col s r (source step j))) step.bit (s.bit (k * w + j) row col)
+micro-bit w k col step t ts s on f q c row j h =
+    keys-bit w k col step t ts s f q c row j h
+    ∙ table-writes step.inputs (t ∷ ts) step.out row (moved step j) step.bit (s.bit (k * w + j) row col) (λ r. element w k col s r (source step j))
+    (λ torn. ⊎_elim
+    (λ (whole : has_whole step.inputs step.on ≡ true). absurd (none_whole (has_whole step.inputs (t ∷ ts)) (rw on at whole) torn))
+    (λ (still : (step.bit ≡ true) × (step.times ≡ 0)).
+    (still.0, λ same. rw (← same) (ap (element w k col s row) (still_source step j still.1) ∙ element-inside w k col s row j h)))
+    f.folds)
 
 none_fires : (a : Bool) (b o : Bool) → cond (a && false) b o ≡ o
 none_fires true b o = refl
@@ -178,16 +206,16 @@ stays true m b o f h = rw h refl
 stays false m b o f h = refl
 
 -- one step, at one place of an element
-micro-place : (w k col : ℕ) (step : Step) (on : List ℕ) (s : Slices) → Fits w step → k * w + w ≤ 32 → col < s.columns → (row j : ℕ)
+micro-place : (w k col : ℕ) (step : Step) (on : List ℕ) (s : Slices) → step.on ≡ on → Fits w step → k * w + w ≤ 32 → col < s.columns → (row j : ℕ)
     → element w k col (replay (micro_from w step on) s) row j
     ≡ cond (eqb row step.out && moved step j && fires step.inputs on (λ r. element w k col s r (source step j))) step.bit (element w k col s row j)
 unfolding replay
-micro-place w k col step [] s f q c row j = sym (none_fires (eqb row step.out && moved step j) step.bit (element w k col s row j))
-micro-place w k col step (t ∷ ts) s f q c row j =
+micro-place w k col step [] s is f q c row j = sym (none_fires (eqb row step.out && moved step j) step.bit (element w k col s row j))
+micro-place w k col step (t ∷ ts) s is f q c row j =
     ⊎_elim
     (λ (h : j < w).
     element-inside w k col (replay (micro_from w step (t ∷ ts)) s) row j h
-    ∙ micro-bit w k col step t ts s f q c row j h
+    ∙ micro-bit w k col step t ts s is f q c row j h
     ∙ rw (element-inside w k col s row j h) refl)
     (λ (h : w ≤ j).
     element-outside w k col (replay (micro_from w step (t ∷ ts)) s) row j h
@@ -199,7 +227,7 @@ micro-place w k col step (t ∷ ts) s f q c row j =
 pub micro-element : (w k col : ℕ) (step : Step) (s : Slices) → Fits w step → k * w + w ≤ 32 → col < s.columns
     → element w k col (replay (micro w step) s) ≡ step_on step (element w k col s)
 unfolding micro step_on
-micro-element w k col step s f q c = λ i row j. micro-place w k col step step.on s f q c row j i
+micro-element w k col step s f q c = λ i row j. micro-place w k col step step.on s refl f q c row j i
 
 -- a replay leaves the columns
 pub replay-columns : (ops : List MicroOp) (s : Slices) → (replay ops s).columns ≡ s.columns

@@ -1,10 +1,11 @@
 -- What the scalar's steps make of one element.
-use Rattle.std.proofs.Common.{◌≡◌, ◌≢◌, ℕ, ◌-◌, ◌<◌, Bool, true, false, cond, ◌&&◌, ltb, [], ◌∷◌, refl, ◌∙◌, arith}
+use Rattle.std.proofs.Common.{◌≡◌, ◌≢◌, ℕ, ◌-◌, ◌<◌, Bool, true, false, cond, ◌&&◌, ltb, [], ◌∷◌, refl, ◌∙◌, arith, inl}
 use Rattle.std.proofs.lemmas.Bool.{lt-ltb, le-leb, ltb-true, and_parts}
 use Rattle.bit_laws.specs.Numbers.{bit_of}
 use Rattle.micro_ir.specs.Steps.{step_on, steps_on, AllFit}
 use Rattle.micro_ir.specs.WorkRows.{scalar_row}
-use Rattle.micro_ir.proofs.OneElement.{step-row, everywhere-fits}
+use Rattle.micro_ir.proofs.OneElement.{step-row, clear-fits}
+use Rattle.micro_ir.proofs.Folds.{level-whole}
 use Rattle.micro_ir.specs.Pieces.{splat}
 
 -- the scalar row holds the scalar's bits, and every other row stays
@@ -24,4 +25,7 @@ splat-row w x e r j other = step-row _ _ r j other ∙ step-row _ e r j other
 
 pub splat-fits : (w x : ℕ) → AllFit w (splat w x)
 unfolding splat
-splat-fits w x = (everywhere-fits w [] (0 ∷ []) scalar_row false, (λ j inside. (let l : j < w = ltb-true j w (and_parts (ltb j w) (bit_of x j) inside).0 in (l, omega arith, omega arith)), tt))
+splat-fits w x = (
+  clear-fits w scalar_row,
+  (record { inside = λ j inside. (let l : j < w = ltb-true j w (and_parts (ltb j w) (bit_of x j) inside).0 in (l, omega arith, omega arith)); folds = inl (level-whole [] (0 ∷ []) refl) }, tt),
+)

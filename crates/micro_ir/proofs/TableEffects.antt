@@ -7,8 +7,12 @@ use Rattle.bit_rows.specs.Slices.{Slices, placed}
 use Rattle.cam_chain.specs.Slices.{selected}
 use Rattle.micro_ir.specs.declared.op.MicroOp.TheVariants.{Update}
 use Rattle.micro_ir.specs.Replay.{replay}
-use Rattle.micro_ir.specs.Steps.{searches, fires, pass_of}
-use Rattle.micro_ir.specs.Tables.{moved_subs, table_list}
+use Rattle.cam_chain.specs.KeyPairs.{keys_of, are_keys}
+use Rattle.micro_ir.specs.Folding.{has_whole, table_keys, searches_for, any_match}
+use Rattle.micro_ir.specs.Steps.{fires, pass_of}
+use Rattle.micro_ir.specs.Tables.{moved_subs, table_list, rows_list}
+use Rattle.micro_ir.proofs.Folds.{table-count, table-found, apart-whole}
+use Rattle.micro_ir.proofs.TableLists.{rows-apart}
 use Rattle.micro_ir.specs.Effects.{tag_source, OrsValues}
 use Rattle.micro_ir.proofs.Lists.{replay-append}
 use Rattle.micro_ir.proofs.Lift.{searches-bit, searches-columns, fresh-tag, passed-tag, passed-bit, passed-columns, replay-columns, replay-num, replay-outside, place_true}
@@ -60,38 +64,61 @@ ored p false true t f o hp h = rw hp (nothing o true)
 ored p false false t f o hp h = rw hp (nothing o true)
 
 -- one bit after the list of a step
-table-bit : (subs : ℕ) (inputs on : List ℕ) (out : ℕ) (up : Bool) (times : ℕ) (s : Slices) (sub row col : ℕ) → subs < 2 ^ 32 → sub < 32 → col < s.columns
-    → (replay (table_list subs inputs on out up times) s).bit sub row col
-    ≡ s.bit sub row col || (eqb row out && selected (moved_subs subs up times) sub && fires inputs on (λ r. s.bit (tag_source up times sub) r col))
-unfolding replay table_list
-table-bit subs inputs [] out up times s sub row col small h c = nothing (s.bit sub row col) (eqb row out && selected (moved_subs subs up times) sub)
-table-bit subs inputs (t ∷ ts) out up times s sub row col small h c =
-    let found = searches subs inputs false (t ∷ ts) in
+rows-bit : (subs : ℕ) (inputs on : List ℕ) (out : ℕ) (up : Bool) (times : ℕ) (s : Slices) (sub row col : ℕ) → subs < 2 ^ 32 → sub < 32 → col < s.columns
+    → (replay (rows_list subs inputs on out up times) s).bit sub row col
+    ≡ s.bit sub row col || (eqb row out && selected (moved_subs subs up times) sub && any_match (table_keys inputs on out) (λ r. s.bit (tag_source up times sub) r col))
+unfolding replay rows_list table_keys
+rows-bit subs inputs [] out up times s sub row col small h c = nothing (s.bit sub row col) (eqb row out && selected (moved_subs subs up times) sub)
+rows-bit subs inputs (t ∷ ts) out up times s sub row col small h c =
+    let keys = table_keys inputs (t ∷ ts) out in
+    let found = searches_for subs false keys in
     let shift = pass_of up times in
     let last = Update (moved_subs subs up times) out true in
     let s1 = replay found s in
     let s2 = replay shift s1 in
-    let cols1 : s1.columns ≡ s.columns = searches-columns subs inputs false (t ∷ ts) s in
+    let cols1 : s1.columns ≡ s.columns = searches-columns subs false keys s in
     let cols : s2.columns ≡ s.columns = passed-columns up times s1 ∙ cols1 in
-    let bits : s2.bit ≡ s.bit = passed-bit up times s1 ∙ searches-bit subs inputs false (t ∷ ts) s in
+    let bits : s2.bit ≡ s.bit = passed-bit up times s1 ∙ searches-bit subs false keys s in
     let old : s2.bit sub row col ≡ s.bit sub row col = ap (λ (g : ℕ → ℕ → ℕ → Bool). g sub row col) bits in
     ap (λ (z : Slices). z.bit sub row col) (replay-append found (shift ++ last ∷ []) s ∙ replay-append shift (last ∷ []) s1)
     ∙ rw old (ored (placed s2.columns sub col) (selected (moved_subs subs up times) sub) (eqb row out) (s2.tag sub col)
-    (fires inputs (t ∷ ts) (λ r. s.bit (tag_source up times sub) r col)) (s.bit sub row col)
+    (any_match keys (λ r. s.bit (tag_source up times sub) r col)) (s.bit sub row col)
     (rw cols (place_true s.columns sub col h c))
     (λ m.
     let from = comes subs up times sub small h m in
     let c1 : col < s1.columns = rw cols1 c in
     arrived up times sub col s1 h c1 from.inside from.room
-    ∙ fresh-tag subs inputs t ts s (tag_source up times sub) col (place_true s.columns (tag_source up times sub) col from.inside c) from.chosen))
+    ∙ fresh-tag subs keys s (tag_source up times sub) col (table-count inputs t ts out) (place_true s.columns (tag_source up times sub) col from.inside c) from.chosen))
 
--- the list of a step or-s its function
-pub table-ors : (subs : ℕ) (inputs on : List ℕ) (out : ℕ) (up : Bool) (times : ℕ) → subs < 2 ^ 32 → OrsValues subs inputs on out up times (table_list subs inputs on out up times)
-table-ors subs inputs on out up times small =
-    let ops = table_list subs inputs on out up times in
+-- the list of a step or-s its function, where its keys find what its values do
+rows-or : (subs : ℕ) (inputs on : List ℕ) (out : ℕ) (up : Bool) (times : ℕ) → subs < 2 ^ 32 → ((g : ℕ → Bool) → any_match (table_keys inputs on out) g ≡ fires inputs on g)
+    → OrsValues subs inputs on out up times (rows_list subs inputs on out up times)
+rows-or subs inputs on out up times small same =
+    let ops = rows_list subs inputs on out up times in
     record {
-      bits = λ s sub row col h c. table-bit subs inputs on out up times s sub row col small h c;
+      bits = λ s sub row col h c. rows-bit subs inputs on out up times s sub row col small h c
+          ∙ ap (λ b. s.bit sub row col || (eqb row out && selected (moved_subs subs up times) sub && b)) (same (λ r. s.bit (tag_source up times sub) r col));
       outside = replay-outside ops;
       num = replay-num ops;
       columns = replay-columns ops;
     }
+
+-- so it does where a value wants no two bits of a row; and so does the list of a table step
+pub rows-ors : (subs : ℕ) (inputs on : List ℕ) (out : ℕ) (up : Bool) (times : ℕ) → subs < 2 ^ 32 → has_whole inputs on ≡ true
+    → OrsValues subs inputs on out up times (rows_list subs inputs on out up times)
+rows-ors subs inputs on out up times small whole = rows-or subs inputs on out up times small (λ g. table-found inputs on out g whole)
+
+empty-ors : (subs : ℕ) (inputs : List ℕ) (out : ℕ) (up : Bool) (times : ℕ) → OrsValues subs inputs [] out up times (table_list subs inputs [] out up times)
+unfolding replay table_list
+empty-ors subs inputs out up times = record {
+  bits = λ s sub row col h c. nothing (s.bit sub row col) (eqb row out && selected (moved_subs subs up times) sub);
+  outside = λ s sub row col out_of. refl;
+  num = λ s. refl;
+  columns = λ s. refl;
+}
+
+pub table-ors : (subs : ℕ) (inputs on : List ℕ) (out : ℕ) (up : Bool) (times : ℕ) → are_keys (keys_of inputs 0) ≡ true
+    → (has_whole inputs on ≡ true → OrsValues subs inputs on out up times (rows_list subs inputs on out up times))
+    → OrsValues subs inputs on out up times (table_list subs inputs on out up times)
+table-ors subs inputs [] out up times keys ors = empty-ors subs inputs out up times
+table-ors subs inputs (t ∷ ts) out up times keys ors = rw (← rows-apart subs inputs (t ∷ ts) out up times keys) (ors (apart-whole inputs t ts keys))

@@ -33,7 +33,7 @@ RealisesBits w to value ops =
 
 -- The same for a kind that makes a mask. Its list tells a truth of each element, active or not, at the highest bit of the row
 -- of truths: a truth of the rows' numbers and, where the mask is an operand, of the mask bit c. The registers and the rows of
--- active elements, of mask bits, of the scalar and of free elements stay.
+-- active elements, of mask bits, of the scalar and of agnostic elements stay.
 pub record Truths (w : ℕ) (reads : Bool) (truth : (ℕ → ℕ) → Bool → Bool) (e now : ℕ → ℕ → Bool) : Type 0 where
   pub told : (c : Bool) → (reads ≡ true → (j : ℕ) → j < w → e mask_row j ≡ c) → now truth_row (w - 1) ≡ truth (λ r. number w (e r)) c
   pub kept : (r j : ℕ) → (r ≤ scalar_row) ⊎ (r ≡ free_row) → j < w → now r j ≡ e r j

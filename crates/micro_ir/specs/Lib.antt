@@ -2,6 +2,7 @@
 pub mod BufValue
 pub mod Listing
 pub mod Replay
+pub mod Folding
 pub mod Steps
 pub mod Subs
 pub mod WorkRows

@@ -21,7 +21,7 @@ const DIGIT_BITS: u32 = 4;
 const RADIX: u32 = 16;
 
 /// Sets the line to the text of an operation: its name in lower case, and its fields in their order,
-/// each behind a space. A set of subarrays is eight hexadecimal digits, a key its row, `=` and its
+/// each after a space. A set of subarrays is eight hexadecimal digits, a key its row, `=` and its
 /// wanted bit, a flag 0 or 1, and any other field decimal.
 pub fn listing(op: &MicroOp, line: &mut LineBuf)
     ensures { line.new.bytes ≡ listing_text op.now }
@@ -90,7 +90,7 @@ pub fn listing(op: &MicroOp, line: &mut LineBuf)
     }
 }
 
-/// Appends the fields that a window and the free elements share.
+/// Appends the fields that a window and the agnostic elements share.
 fn push_bounds(line: &mut LineBuf, row: u8, width: u8, first: u32, from: u32, to: u32)
     requires { array_string_len line.old ≤ 100 }
     ensures text { line.new.bytes
@@ -124,7 +124,7 @@ fn push_flag(line: &mut LineBuf, set: bool)
     line.push_str(if set { " 1" } else { " 0" });
 }
 
-/// Appends each key behind a space.
+/// Appends each key after a space.
 fn push_keys(line: &mut LineBuf, keys: &Keys)
     requires { array_string_len line.old ≤ 100 }
     ensures text { line.new.bytes ≡ line.old.bytes ++ keys_text keys.now }

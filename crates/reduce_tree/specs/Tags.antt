@@ -1,5 +1,5 @@
 -- The tags of a chain by their places: that of column c in subarray s has the place 32 c + s.
-use Rattle.std.specs.Prelude.{ℕ, ◌≡◌, ◌*◌, ◌/◌, ◌%◌, ◌<◌, Bool, true, false, ◌&&◌, eqb}
+use Rattle.std.specs.Prelude.{ℕ, ◌≡◌, ◌*◌, ◌/◌, ◌%◌, ◌<◌, Bool, true, false, ◌&&◌, eqb, Option, Some, None, MatchOption, min}
 use Rattle.std.specs.Int.{bit_at}
 use Rattle.std.specs.List.{count_by, range_with_len}
 use Rattle.bit_rows.specs.Slices.{Slices}
@@ -31,3 +31,17 @@ NoTagBelow n s = (k : ℕ) → k < n → is_tagged s k ≡ false
 -- The tag of place n is set, and that of no lesser place is.
 abbrev pub IsFirstTag : ℕ → Slices → Type 0
 IsFirstTag n s = (n < places s) × (is_tagged s n ≡ true) × NoTagBelow n s
+
+-- No tag of a place below n is set in one subarray.
+abbrev pub NoTagOf : ℕ → ℕ → Slices → Type 0
+NoTagOf sub n s = (k : ℕ) → k < n → k % 32 ≡ sub → is_tagged s k ≡ false
+
+-- The place, where there is one, has the first tag of one subarray; where there is none, the subarray has no tag.
+abbrev pub IsFirstOf : ℕ → Option ℕ → Slices → Type 0
+IsFirstOf sub place s = MatchOption place (NoTagOf sub (places s) s) (λ n. (n < places s) × (n % 32 ≡ sub) × (is_tagged s n ≡ true) × NoTagOf sub n s)
+
+-- the lesser of two places, where there are two
+abbrev pub lesser_of : Option ℕ → Option ℕ → Option ℕ
+lesser_of (Some x) (Some y) = Some (min x y)
+lesser_of (Some x) None = Some x
+lesser_of None y = y

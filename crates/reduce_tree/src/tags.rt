@@ -1,7 +1,8 @@
-ghost use Rattle.std.specs.Prelude.{◌≡◌, ◌+◌, ◌*◌, ◌<◌, ◌≤◌, ◌↔◌, ◌&&◌, IsTrue, MatchOption};
-ghost use Rattle.reduce_tree.specs.Tags.{places, is_tagged, is_selected, tags_in, HasTag, NoTagBelow, IsFirstTag};
+ghost use Rattle.std.specs.Prelude.{◌≡◌, ◌+◌, ◌*◌, ◌<◌, ◌≤◌, ◌↔◌, ◌&&◌, IsTrue, MatchOption, eqb};
+ghost use Rattle.std.specs.Int.{bit_at};
+ghost use Rattle.reduce_tree.specs.Tags.{places, is_tagged, is_selected, tags_in, HasTag, NoTagBelow, IsFirstTag, IsFirstOf, lesser_of};
 
-use bit_rows::Planes;
+use bit_rows::{Planes, count_words, first_bit};
 
 // Each column has a tag in each subarray.
 const SUBARRAYS: u32 = 32;
@@ -12,8 +13,10 @@ pub fn count<P: Planes>(p: &P, subs: u32) -> u32
     ensures few { result ≤ 65536 }
 {
     let mut tags = 0;
-    for place in 0..SUBARRAYS * p.columns() {
-        tags += u32::from(is_counted(p, subs, place));
+    for sub in 0..SUBARRAYS {
+        if is_chosen(subs, sub) {
+            tags += count_words(p.tag_words(sub as u8));
+        }
     }
     tags
 }
@@ -23,12 +26,7 @@ pub fn any<P: Planes>(p: &P, subs: u32) -> bool
     ensures tag { IsTrue result ↔ HasTag subs (P.slices p.now) }
     ensures counted { IsTrue result ↔ (0 < tags_in subs (P.slices p.now)) }
 {
-    for place in 0..SUBARRAYS * p.columns() {
-        if is_counted(p, subs, place) {
-            return true;
-        }
-    }
-    false
+    count(p, subs) > 0
 }
 
 /// The least place whose tag is set, or `None` where no tag is. The place of a column in a subarray
@@ -36,26 +34,39 @@ pub fn any<P: Planes>(p: &P, subs: u32) -> bool
 pub fn first<P: Planes>(p: &P) -> Option<u32>
     ensures { MatchOption result (NoTagBelow (places (P.slices p.now)) (P.slices p.now)) (λ n. IsFirstTag n (P.slices p.now)) }
 {
-    for place in 0..SUBARRAYS * p.columns() {
-        if tag_at(p, place) {
-            return Some(place);
-        }
+    let mut least = None;
+    for sub in 0..SUBARRAYS {
+        least = lesser(least, first_in(p, sub));
     }
-    None
+    least
 }
 
-/// Whether the tag of a place is set and lies in a selected subarray.
-fn is_counted<P: Planes>(p: &P, subs: u32, place: u32) -> bool
-    requires { place < places (P.slices p.now) }
-    ensures { result ≡ is_selected subs place && is_tagged (P.slices p.now) place }
+// The least place of a tag in one subarray, or `None` where it has none.
+fn first_in<P: Planes>(p: &P, sub: u32) -> Option<u32>
+    requires { sub < 32 }
+    ensures { IsFirstOf sub result (P.slices p.now) }
 {
-    (subs >> (place % SUBARRAYS)) & 1 == 1 && tag_at(p, place)
+    match first_bit(p.tag_words(sub as u8)) {
+        Some(col) => Some(SUBARRAYS * col + sub),
+        None => None,
+    }
 }
 
-/// The tag of a place.
-fn tag_at<P: Planes>(p: &P, place: u32) -> bool
-    requires { place < places (P.slices p.now) }
-    ensures { result ≡ is_tagged (P.slices p.now) place }
+// The lesser of two places, where there are two.
+fn lesser(a: Option<u32>, b: Option<u32>) -> Option<u32>
+    ensures { result ≡ lesser_of a b }
 {
-    p.tag((place % SUBARRAYS) as u8, place / SUBARRAYS)
+    match (a, b) {
+        (Some(x), Some(y)) => Some(x.min(y)),
+        (Some(x), None) => Some(x),
+        (None, y) => y,
+    }
+}
+
+// Whether a subarray is selected.
+fn is_chosen(subs: u32, sub: u32) -> bool
+    requires { sub < 32 }
+    ensures { result ≡ eqb (bit_at subs sub) 1 }
+{
+    (subs >> sub) & 1 == 1
 }

@@ -1,20 +1,17 @@
--- What the text about the layout of an image rests on: digits, pages, edges, runs and what was put.
+-- What the text about the layout of an image rests on: digits, pages, edges and runs.
 use Rattle.std.proofs.Common.{◌≡◌, ℕ, zero, suc, ◌+◌, ◌-◌, ◌/◌, ◌%◌, ◌^◌, ◌<◌, ◌≤◌, min, Bool, true, false, List, [], ◌∷◌, ◌++◌, length, take, drop, map, get_or, Option, Some, None, Result, Ok, Err, OnErr, refl, sym, ap, ◌∙◌, subst, append_assoc, append-nil, arith, ◌==◌, bit_or, bit_and, inl, inr, ◌⊎◌}
 use Rattle.std.specs.Prelude.{◌||◌, if◌then◌else◌}
-use Rattle.std.proofs.Math.Seq.{take-append-add}
 use Rattle.std.proofs.lemmas.Nat.{pow_pos}
 use Rattle.std.specs.Int.Bits.{or_zero_r}
 use Rattle.std.proofs.lemmas.Nat.Bits.{same_from_bits, bit_at_or, and_pow}
 use Rattle.std.proofs.lemmas.Bool.Decides.{nat_tests}
-use Rattle.std.proofs.lemmas.List.{at_drop_more, drop_all, take-append-le, length-append}
+use Rattle.std.proofs.lemmas.List.{at_drop_more, drop_all}
 use Rattle.std.proofs.lemmas.List.Elements.{All-more, All-weaker, All-map, All-head, All-tail}
 use Rattle.std.specs.List.{All, list_any}
-use Rattle.std.specs.Io.KnownBytes.{Appends}
-use Rattle.cape_io.specs.Devices.{PutsFront}
 use Rattle.guest_mem.specs.declared.regions.Region.{Region}
 use Rattle.bit_laws.specs.Digits.{hex_word}
-use Rattle.elf_load.specs.declared.spans.Span.{Span}
-use Rattle.elf_load.specs.Layout.{span_of, meets, is_mapped, page_perms, page_numbers}
+use Rattle.guest_mem.specs.declared.spans.Span.{Span}
+use Rattle.guest_mem.specs.Spans.{span_of, meets, is_mapped, page_perms, page_numbers}
 use Rattle.report_texts.specs.Layouts.{perms_of, same_perms, letter, line_of_run, lines_from, map_lines, IsSteady, IsRun}
 
 -- ---- digits
@@ -77,8 +74,8 @@ three_more front a b c = append_assoc (front ++ a ∷ []) (b ∷ []) (c ∷ []) 
 
 -- ---- edges
 
-steady_shorter : (s : Span) (page behind edge : ℕ) → behind ≤ edge → IsSteady page edge s → IsSteady page behind s
-steady_shorter s page behind edge short steady = record { same = λ other from to. steady.same other from (omega arith) }
+steady_shorter : (s : Span) (page after edge : ℕ) → after ≤ edge → IsSteady page edge s → IsSteady page after s
+steady_shorter s page after edge short steady = record { same = λ other from to. steady.same other from (omega arith) }
 
 -- one more region: up to the first edge of all
 pub steady_more : (rs : List Region) (i page edge next : ℕ) (r : Region) → i < length rs → r ≡ get_or rs i r
@@ -88,23 +85,23 @@ steady_more rs i page edge next r within is steady one =
     (All-weaker (λ (x : Region). IsSteady page edge (span_of x)) (λ (x : Region). IsSteady page (min edge next) (span_of x)) (λ x h. steady_shorter (span_of x) page (min edge next) edge (omega arith) h) (take i rs) steady)
     (subst (λ (x : Region). IsSteady page (min edge next) (span_of x)) is (steady_shorter (span_of r) page (min edge next) next (omega arith) one))
 
-steady_mapped : (ss : List Span) (page behind other : ℕ) → page ≤ other → other < behind → All (IsSteady page behind) ss → is_mapped ss other ≡ is_mapped ss page
-steady_mapped [] page behind other from to steady = refl
-steady_mapped (s ∷ ss) page behind other from to steady =
-    rw (IsSteady.same (All-head (IsSteady page behind) s ss steady) other from to) (ap (λ b. meets page s || b) (steady_mapped ss page behind other from to (All-tail (IsSteady page behind) s ss steady)))
+steady_mapped : (ss : List Span) (page after other : ℕ) → page ≤ other → other < after → All (IsSteady page after) ss → is_mapped ss other ≡ is_mapped ss page
+steady_mapped [] page after other from to steady = refl
+steady_mapped (s ∷ ss) page after other from to steady =
+    rw (IsSteady.same (All-head (IsSteady page after) s ss steady) other from to) (ap (λ b. meets page s || b) (steady_mapped ss page after other from to (All-tail (IsSteady page after) s ss steady)))
 
-steady_perms : (ss : List Span) (page behind other : ℕ) → page ≤ other → other < behind → All (IsSteady page behind) ss → page_perms ss other ≡ page_perms ss page
+steady_perms : (ss : List Span) (page after other : ℕ) → page ≤ other → other < after → All (IsSteady page after) ss → page_perms ss other ≡ page_perms ss page
 unfolding page_perms
-steady_perms [] page behind other from to steady = refl
-steady_perms (s ∷ ss) page behind other from to steady =
-    rw (IsSteady.same (All-head (IsSteady page behind) s ss steady) other from to, steady_perms ss page behind other from to (All-tail (IsSteady page behind) s ss steady)) refl
+steady_perms [] page after other from to steady = refl
+steady_perms (s ∷ ss) page after other from to steady =
+    rw (IsSteady.same (All-head (IsSteady page after) s ss steady) other from to, steady_perms ss page after other from to (All-tail (IsSteady page after) s ss steady)) refl
 
 -- up to the first edge of all, the permissions stay as they are
-pub run_of_steady : (rs : List Region) (page behind : ℕ) → All (λ x. IsSteady page behind (span_of x)) rs → IsRun (map span_of rs) page behind
-run_of_steady rs page behind steady =
-    let all = All-map (IsSteady page behind) span_of rs steady in
+pub run_of_steady : (rs : List Region) (page after : ℕ) → All (λ x. IsSteady page after (span_of x)) rs → IsRun (map span_of rs) page after
+run_of_steady rs page after steady =
+    let all = All-map (IsSteady page after) span_of rs steady in
     record {
-      same = λ other from to. rw (steady_mapped (map span_of rs) page behind other from to all, steady_perms (map span_of rs) page behind other from to all) refl;
+      same = λ other from to. rw (steady_mapped (map span_of rs) page after other from to all, steady_perms (map span_of rs) page after other from to all) refl;
     }
 
 -- ---- runs
@@ -133,11 +130,11 @@ lines_left ss first zero = []
 lines_left ss first (suc n) = lines_from ss first (first + 1) n
 
 -- where a run ends, its line stands before those of the pages that are left
-lines_at_end : (ss : List Span) (first behind n : ℕ) → (0 < n → same_perms (perms_of ss behind) (perms_of ss first) ≡ false)
-    → lines_from ss first behind n ≡ line_of_run (perms_of ss first) first behind ++ lines_left ss behind n
+lines_at_end : (ss : List Span) (first after n : ℕ) → (0 < n → same_perms (perms_of ss after) (perms_of ss first) ≡ false)
+    → lines_from ss first after n ≡ line_of_run (perms_of ss first) first after ++ lines_left ss after n
 unfolding lines_from lines_left
-lines_at_end ss first behind zero ends = sym (append-nil (line_of_run (perms_of ss first) first behind))
-lines_at_end ss first behind (suc n) ends = rw (ends (omega arith)) refl
+lines_at_end ss first after zero ends = sym (append-nil (line_of_run (perms_of ss first) first after))
+lines_at_end ss first after (suc n) ends = rw (ends (omega arith)) refl
 
 lines_of_run : (ss : List Span) (first k n : ℕ) → IsRun ss first (first + suc k) → (0 < n → same_perms (perms_of ss (first + suc k)) (perms_of ss first) ≡ false)
     → lines_left ss first (suc k + n) ≡ line_of_run (perms_of ss first) first (first + suc k) ++ lines_left ss (first + suc k) n
@@ -147,82 +144,24 @@ lines_of_run ss first k n run ends =
     let e' : first + 1 + k ≡ first + suc k = omega arith in
     rw e (lines_through ss first (first + 1) k n (λ other from to. run.same other (omega arith) (omega arith)) ∙ ap (λ page. lines_from ss first page n) e' ∙ lines_at_end ss first (first + suc k) n ends)
 
--- ---- what was put
-
--- bytes that were gained, and then more
-pub appends_more : (first mid last : Option (List ℕ)) (xs ys : List ℕ) → Appends first mid xs → Appends mid last ys → Appends first last (xs ++ ys)
-appends_more None mid last xs ys a b = tt
-appends_more (Some f) None last xs ys a b = absurd a
-appends_more (Some f) (Some m) None xs ys a b = absurd b
-appends_more (Some f) (Some m) (Some l) xs ys a b = rw (b, a) (append_assoc f xs ys)
-
--- what was put before the line of a run, where the pages from `first` on are left
-pub record HasPut (ss : List Span) (first : ℕ) (before now : Option (List ℕ)) : Type 0 where
-  pub done : List ℕ
-  pub put : Appends before now done
-  pub whole : done ++ lines_left ss first (page_numbers - first) ≡ map_lines ss
-
-appends_none : (held : Option (List ℕ)) → Appends held held []
-appends_none None = tt
-appends_none (Some bytes) = sym (append-nil bytes)
-
-pub has_put_none : (ss : List Span) (held : Option (List ℕ)) → HasPut ss 0 held held
+-- all lines are those of the pages from the first on
+pub lines-whole : (ss : List Span) → lines_left ss 0 (page_numbers - 0) ≡ map_lines ss
 unfolding map_lines lines_left
-has_put_none ss held = record { done = []; put = appends_none held; whole = refl }
+lines-whole ss = refl
 
--- the lines from a run on, by how many pages it has and how many are behind it
-lines_by : (ss : List Span) (first behind : ℕ) → first < behind → behind ≤ page_numbers → IsRun ss first behind
-    → (behind < page_numbers → same_perms (perms_of ss behind) (perms_of ss first) ≡ false)
-    → lines_left ss first (page_numbers - first) ≡ line_of_run (perms_of ss first) first behind ++ lines_left ss behind (page_numbers - behind)
-lines_by ss first behind some within run longest =
-    let k : ℕ = behind - first - 1 in
-    let e : first + suc k ≡ behind = omega arith in
-    let e' : suc k + (page_numbers - behind) ≡ page_numbers - first = omega arith in
-    rw (e, e') at (lines_of_run ss first k (page_numbers - behind) (rw e run) (λ more. rw e (longest (omega arith))))
-
-pub has_put_more : (ss : List Span) (first behind : ℕ) (before mid now : Option (List ℕ)) → first < behind → behind ≤ page_numbers → IsRun ss first behind
-    → (behind < page_numbers → same_perms (perms_of ss behind) (perms_of ss first) ≡ false)
-    → HasPut ss first before mid → Appends mid now (line_of_run (perms_of ss first) first behind) → HasPut ss behind before now
-has_put_more ss first behind before mid now some within run longest had line =
-    record {
-      done = had.done ++ line_of_run (perms_of ss first) first behind;
-      put = appends_more before mid now had.done (line_of_run (perms_of ss first) first behind) had.put line;
-      whole = append_assoc had.done (line_of_run (perms_of ss first) first behind) (lines_left ss behind (page_numbers - behind)) ∙ ap (λ rest. had.done ++ rest) (sym (lines_by ss first behind some within run longest)) ∙ had.whole;
-    }
-
-pub has_put_all : (ss : List Span) (first : ℕ) (before now : Option (List ℕ)) → page_numbers ≤ first → HasPut ss first before now → Appends before now (map_lines ss)
+-- no line is left where no page is
+pub lines-none : (ss : List Span) (first : ℕ) → page_numbers ≤ first → lines_left ss first (page_numbers - first) ≡ []
 unfolding lines_left
-has_put_all ss first before now end had =
-    let e : page_numbers - first ≡ 0 = omega arith in
-    let whole : had.done ≡ map_lines ss = sym (append-nil had.done) ∙ rw e at had.whole in
-    rw (← whole) had.put
+lines-none ss first end =
+    let none : page_numbers - first ≡ 0 = omega arith in
+    rw none refl
 
--- a front of a piece that follows what was put is a front of the whole
-pub puts_front_more : (before mid now : Option (List ℕ)) (done piece rest whole : List ℕ) → Appends before mid done → PutsFront mid now piece → done ++ (piece ++ rest) ≡ whole
-    → PutsFront before now whole
-puts_front_more before mid now done piece rest whole had front is =
-    let n : ℕ = front.0 in
-    let short : n ≤ length piece = front.1 in
-    let e : take (length done + n) (done ++ (piece ++ rest)) ≡ done ++ take n piece = take-append-add done (piece ++ rest) n ∙ ap (λ xs. done ++ xs) (take-append-le n piece rest short) in
-    let long : length (done ++ (piece ++ rest)) ≡ length done + (length piece + length rest) = length-append done (piece ++ rest) ∙ ap (λ k. length done + k) (length-append piece rest) in
-    rw (← is) (length done + n, omega (arith, long), rw e (appends_more before mid now done (take n piece) had front.2))
-
-pub has_put_front : (ss : List Span) (first behind : ℕ) (before mid now : Option (List ℕ)) → first < behind → behind ≤ page_numbers → IsRun ss first behind
-    → (behind < page_numbers → same_perms (perms_of ss behind) (perms_of ss first) ≡ false)
-    → HasPut ss first before mid → PutsFront mid now (line_of_run (perms_of ss first) first behind) → PutsFront before now (map_lines ss)
-has_put_front ss first behind before mid now some within run longest had front =
-    puts_front_more before mid now had.done (line_of_run (perms_of ss first) first behind) (lines_left ss behind (page_numbers - behind)) (map_lines ss) had.put front
-    (ap (λ rest. had.done ++ rest) (sym (lines_by ss first behind some within run longest)) ∙ had.whole)
-
--- a front of the first piece is a front of the whole
-pub puts_front_first : (before now : Option (List ℕ)) (piece rest : List ℕ) → PutsFront before now piece → PutsFront before now (piece ++ rest)
-puts_front_first before now piece rest front = puts_front_more before before now [] piece rest (piece ++ rest) (appends_none before) front refl
-
--- a whole piece and a front of the last one
-pub puts_front_last : (before mid now : Option (List ℕ)) (piece last : List ℕ) → Appends before mid piece → PutsFront mid now last → PutsFront before now (piece ++ last)
-puts_front_last before mid now piece last had front = puts_front_more before mid now piece last [] (piece ++ last) had front (ap (λ rest. piece ++ rest) (append-nil last))
-
--- what holds anyway holds at an error
-pub on_err : {T E P : Type 0} (r : Result T E) → P → OnErr r P
-on_err (Ok x) p = tt
-on_err (Err e) p = p
+-- the lines from a run on, by how many pages it has and how many are after it
+pub lines_by : (ss : List Span) (first after : ℕ) → first < after → after ≤ page_numbers → IsRun ss first after
+    → (after < page_numbers → same_perms (perms_of ss after) (perms_of ss first) ≡ false)
+    → lines_left ss first (page_numbers - first) ≡ line_of_run (perms_of ss first) first after ++ lines_left ss after (page_numbers - after)
+lines_by ss first after some within run longest =
+    let k : ℕ = after - first - 1 in
+    let e : first + suc k ≡ after = omega arith in
+    let e' : suc k + (page_numbers - after) ≡ page_numbers - first = omega arith in
+    rw (e, e') at (lines_of_run ss first k (page_numbers - after) (rw e run) (λ more. rw e (longest (omega arith))))

@@ -1,4 +1,4 @@
--- Lemmas on texts and on how a sink takes them piece by piece.
+-- Lemmas on texts and on their pieces.
 pub mod LayoutLemmas
-pub mod PutLemmas
+pub mod PieceLemmas
 pub mod StateLemmas

@@ -2,8 +2,9 @@
 use Rattle.std.specs.Prelude.{ℕ, zero, suc, ◌+◌, ◌-◌, ◌*◌, ◌/◌, ◌%◌, ◌==◌, ◌<◌, ◌≤◌, ◌≡◌, Bool, true, false, List, [], ◌∷◌, ◌++◌, codes, Option, Some, None, if◌then◌else◌}
 use Rattle.bit_laws.specs.Digits.{hex_word}
 use Rattle.rvv_meaning.specs.Texts.{newline}
-use Rattle.elf_load.specs.declared.spans.Span.{Span}
-use Rattle.elf_load.specs.Layout.{page_size, page_numbers, meets, is_mapped, page_perms}
+use Rattle.guest_mem.specs.declared.spans.Span.{Span}
+use Rattle.guest_mem.specs.Pages.{page_size}
+use Rattle.guest_mem.specs.Spans.{page_numbers, meets, is_mapped, page_perms}
 
 -- the permissions of a page, where it is mapped
 abbrev pub perms_of : List Span → ℕ → Option ℕ
@@ -25,13 +26,13 @@ letters perms = letter perms 4 114 ∷ letter perms 2 119 ∷ letter perms 1 120
 
 -- the line about the pages from a first page on and before another, which are mapped with these permissions
 abbrev pub map_line : ℕ → ℕ → ℕ → List ℕ
-map_line first behind perms =
-    codes "map " ++ hex_word (first * page_size) ++ codes " " ++ hex_word (behind * page_size) ++ codes " " ++ letters perms ++ newline
+map_line first after perms =
+    codes "map " ++ hex_word (first * page_size) ++ codes " " ++ hex_word (after * page_size) ++ codes " " ++ letters perms ++ newline
 
 -- pages that are not mapped have no line
 abbrev pub line_of_run : Option ℕ → ℕ → ℕ → List ℕ
-line_of_run None first behind = []
-line_of_run (Some perms) first behind = map_line first behind perms
+line_of_run None first after = []
+line_of_run (Some perms) first after = map_line first after perms
 
 -- The lines of the pages from a page on, of which n are left: one for each longest run of neighbouring pages with equal
 -- permissions. The run that goes on began at `first`.
@@ -55,9 +56,9 @@ unfoldable pub layout_text : ℕ → List Span → List ℕ
 layout_text entry ss = entry_line entry ++ map_lines ss
 
 -- a range meets all pages from one on and before another, or none of them
-pub record IsSteady (page behind : ℕ) (s : Span) : Type 0 where
-  pub same : (other : ℕ) → page ≤ other → other < behind → meets other s ≡ meets page s
+pub record IsSteady (page after : ℕ) (s : Span) : Type 0 where
+  pub same : (other : ℕ) → page ≤ other → other < after → meets other s ≡ meets page s
 
 -- the pages from one on and before another have the permissions of the first of them
-pub record IsRun (ss : List Span) (first behind : ℕ) : Type 0 where
-  pub same : (page : ℕ) → first ≤ page → page < behind → perms_of ss page ≡ perms_of ss first
+pub record IsRun (ss : List Span) (first after : ℕ) : Type 0 where
+  pub same : (page : ℕ) → first ≤ page → page < after → perms_of ss page ≡ perms_of ss first

@@ -1,4 +1,4 @@
--- The lines that a command puts at its end.
+-- The lines that a command writes at its end.
 use Rattle.std.specs.Prelude.{ℕ, List, ◌++◌, codes}
 use Rattle.std.specs.Fmt.{decimal}
 use Rattle.elf_load.specs.declared.faults.LoadFault.{LoadFault}

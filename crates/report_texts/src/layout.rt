@@ -1,51 +1,30 @@
 // The text about the layout of an image: its entry, and its pages.
-ghost use Rattle.std.specs.Prelude.{◌≡◌, ◌+◌, ◌-◌, ◌/◌, ◌<◌, ◌≤◌, ◌++◌, false, if◌then◌else◌, map, OnOk, OnErr};
+ghost use Rattle.std.specs.Prelude.{◌≡◌, ◌+◌, ◌-◌, ◌/◌, ◌<◌, ◌≤◌, ◌++◌, false, if◌then◌else◌, map, is_ok};
 ghost use Rattle.std.specs.Option.{option_map};
-ghost use Rattle.std.specs.Io.KnownBytes.{Appends};
 ghost use Rattle.arrayvec.specs.ArrayString.{array_string_len};
-ghost use Rattle.cape_io.specs.Devices.{PutsFront, Rose};
-ghost use Rattle.elf_load.specs.Layout.{span_of, is_mapped, meets, page_perms, page_size, page_numbers};
+ghost use Rattle.cape_io.specs.Views.{Writes};
+ghost use Rattle.guest_mem.specs.Pages.{page_size};
+ghost use Rattle.guest_mem.specs.Spans.{span_of, is_mapped, page_perms, page_numbers};
 ghost use Rattle.report_texts.specs.Layouts.{perms_of, same_perms, letters, entry_line, map_line, line_of_run, map_lines, layout_text, IsSteady, IsRun};
 
-use crate::text::{Line, push_hex};
+use crate::text::{Line, push_hex, write_line};
 use bitflags::Flags;
 use cape_io::{Failed, Sink};
-use guest_mem::{Perms, Region};
+use guest_mem::{PAGE_SIZE, PAGES, Perms, Region};
 
-// The bytes of a page.
-const PAGE_SIZE: u32 = 4096;
-
-// How many pages there are.
-const PAGES: u32 = 1 << 20;
-
-// The first page of a region.
-fn first_page(region: &Region) -> u32
-    ensures page { result ≡ region.now.start / page_size }
-    ensures bound { result < page_numbers }
-{
-    region.start / PAGE_SIZE
-}
-
-// The page behind the last page of a region.
-fn page_behind(region: &Region) -> u32
+// The page after the last page of a region.
+fn page_after(region: &Region) -> u32
     ensures { result ≡ (region.now.start + region.now.len + (page_size - 1)) / page_size }
 {
     let end = u64::from(region.start) + u64::from(region.len);
     end.div_ceil(u64::from(PAGE_SIZE)) as u32
 }
 
-// Whether a region meets a page.
-fn meets(region: &Region, page: u32) -> bool
-    ensures { result ≡ meets page (span_of region.now) }
-{
-    region.len > 0 && first_page(region) <= page && page < page_behind(region)
-}
-
 // Whether a page is mapped.
 fn is_mapped(regions: &[Region], page: u32) -> bool
     ensures { result ≡ is_mapped (map span_of regions.now) page }
 {
-    regions.iter().any(|region| meets(region, page))
+    regions.iter().any(|region| region.span().meets(page))
 }
 
 // The permissions that a page gets of the regions that meet it: their union.
@@ -54,7 +33,7 @@ fn union_at(regions: &[Region], page: u32) -> Perms
 {
     let mut perms = Perms::from_bits_retain(0);
     for region in regions {
-        if meets(region, page) {
+        if region.span().meets(page) {
             perms.insert(region.perms);
         }
     }
@@ -79,12 +58,12 @@ fn edge_after(region: &Region, page: u32) -> u32
     ensures bound { result ≤ page_numbers }
     ensures steady { IsSteady page result (span_of region.now) }
 {
-    let first = first_page(region);
-    let behind = page_behind(region);
+    let first = region.span().first_page();
+    let after = page_after(region);
     if page < first {
         first
-    } else if page < behind {
-        behind.min(PAGES)
+    } else if page < after {
+        after.min(PAGES)
     } else {
         PAGES
     }
@@ -104,7 +83,7 @@ fn next_edge(regions: &[Region], page: u32) -> u32
     edge
 }
 
-// The page behind the longest run of pages from the first on with the permissions of the first.
+// The page after the longest run of pages from the first on with the permissions of the first.
 fn run_end(regions: &[Region], first: u32) -> u32
     requires { first < page_numbers }
     ensures later { first < result }
@@ -143,17 +122,17 @@ fn push_letters(line: &mut Line, perms: Perms)
 
 // The line about the pages from the first on and before another.
 #[tactic(auto, using(crate::proofs::LayoutLemmas::hex_word_wraps))]
-fn map_line(first: u32, behind: u32, perms: Perms) -> Line
+fn map_line(first: u32, after: u32, perms: Perms) -> Line
     requires start { first < page_numbers }
-    requires end { behind ≤ page_numbers }
-    ensures { result.bytes ≡ map_line first behind perms.0 }
+    requires end { after ≤ page_numbers }
+    ensures { result.bytes ≡ map_line first after perms.0 }
 {
     let mut line = Line::new();
     line.push_str("map ");
     push_hex(&mut line, first * PAGE_SIZE);
     line.push_str(" ");
     // The end of the last page, 2^32, has the digits of 0.
-    push_hex(&mut line, behind.wrapping_mul(PAGE_SIZE));
+    push_hex(&mut line, after.wrapping_mul(PAGE_SIZE));
     line.push_str(" ");
     push_letters(&mut line, perms);
     line.push_str("\n");
@@ -171,58 +150,38 @@ fn entry_line(entry: u32) -> Line
     line
 }
 
-// Puts the line about the entry.
-fn put_entry<O: Sink>(entry: u32, out: &mut O) -> Result<(), Failed>
-    ensures whole { OnOk result (Appends (O.held out.old) (O.held out.new) (entry_line entry)) }
-    ensures front { OnErr result (PutsFront (O.held out.old) (O.held out.new) (entry_line entry)) }
-    ensures cause { OnErr result (Rose (O.faults out.old) (O.faults out.new)) }
-    ensures later { O.faults out.old ≤ O.faults out.new }
-{
-    out.put(entry_line(entry).as_str().as_bytes())
-}
-
-// Puts the line of a run of pages, if they are mapped.
-fn put_run<O: Sink>(regions: &[Region], first: u32, behind: u32, out: &mut O) -> Result<(), Failed>
+// Writes the line of a run of pages, if they are mapped.
+#[tactic(auto, using(cape_io::proofs::Writing::writes_none))]
+fn write_run<O: Sink>(regions: &[Region], first: u32, after: u32, out: &mut O) -> Result<(), Failed>
     requires start { first < page_numbers }
-    requires end { behind ≤ page_numbers }
-    ensures whole { OnOk result (Appends (O.held out.old) (O.held out.new)
-        (line_of_run (perms_of (map span_of regions.now) first) first behind)) }
-    ensures front { OnErr result (PutsFront (O.held out.old) (O.held out.new)
-        (line_of_run (perms_of (map span_of regions.now) first) first behind)) }
-    ensures cause { OnErr result (Rose (O.faults out.old) (O.faults out.new)) }
-    ensures later { O.faults out.old ≤ O.faults out.new }
+    requires end { after ≤ page_numbers }
+    ensures { Writes O.Sink (line_of_run (perms_of (map span_of regions.now) first) first after) (is_ok result) out.old out.new }
 {
     match perms_at(regions, first) {
-        Some(perms) => out.put(map_line(first, behind, perms).as_str().as_bytes()),
+        Some(perms) => write_line(&map_line(first, after, perms), out),
         None => Ok(()),
     }
 }
 
-// Puts the lines of all runs, in rising order.
-fn put_maps<O: Sink>(regions: &[Region], out: &mut O) -> Result<(), Failed>
-    ensures whole { OnOk result (Appends (O.held out.old) (O.held out.new) (map_lines (map span_of regions.now))) }
-    ensures front { OnErr result (PutsFront (O.held out.old) (O.held out.new) (map_lines (map span_of regions.now))) }
-    ensures cause { OnErr result (Rose (O.faults out.old) (O.faults out.new)) }
-    ensures later { O.faults out.old ≤ O.faults out.new }
+// Writes the lines of all runs, in rising order.
+fn write_maps<O: Sink>(regions: &[Region], out: &mut O) -> Result<(), Failed>
+    ensures { Writes O.Sink (map_lines (map span_of regions.now)) (is_ok result) out.old out.new }
 {
     let mut first = 0;
     while first < PAGES {
-        let behind = run_end(regions, first);
-        put_run(regions, first, behind, out)?;
-        first = behind;
+        let after = run_end(regions, first);
+        write_run(regions, first, after, out)?;
+        first = after;
     }
     Ok(())
 }
 
-/// Puts `ok entry X`, and then a line `map X X rwx` for each longest run of neighbouring pages of equal permissions, in
-/// rising order. The second number is the end, which is not of the run. It puts a piece for each line; at `Failed` it put
-/// some front of the text.
-pub fn put_layout<O: Sink>(entry: u32, regions: &[Region], out: &mut O) -> Result<(), Failed>
-    ensures whole { OnOk result (Appends (O.held out.old) (O.held out.new) (layout_text entry (map span_of regions.now))) }
-    ensures front { OnErr result (PutsFront (O.held out.old) (O.held out.new) (layout_text entry (map span_of regions.now))) }
-    ensures cause { OnErr result (Rose (O.faults out.old) (O.faults out.new)) }
-    ensures later { O.faults out.old ≤ O.faults out.new }
+/// Writes `ok entry X`, and then a line `map X X rwx` for each longest run of neighbouring pages of equal permissions,
+/// in rising order. The second number is the end, which is not of the run. It puts a piece for each line; at `Failed` it
+/// wrote some prefix of the text.
+pub fn write_layout<O: Sink>(entry: u32, regions: &[Region], out: &mut O) -> Result<(), Failed>
+    ensures { Writes O.Sink (layout_text entry (map span_of regions.now)) (is_ok result) out.old out.new }
 {
-    put_entry(entry, out)?;
-    put_maps(regions, out)
+    write_line(&entry_line(entry), out)?;
+    write_maps(regions, out)
 }

@@ -6,7 +6,7 @@ mod lines;
 mod state;
 mod text;
 
-pub use layout::put_layout;
+pub use layout::write_layout;
 pub use lines::{refused_line, report_line};
-pub use state::put_state;
-pub use text::{Line, put_line};
+pub use state::write_state;
+pub use text::{Line, write_line};

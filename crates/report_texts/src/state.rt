@@ -1,14 +1,13 @@
 // The text about the state of a machine.
-ghost use Rattle.std.specs.Prelude.{◌≡◌, ◌+◌, ◌-◌, ◌*◌, ◌/◌, ◌<◌, ◌≤◌, ◌++◌, codes, decimal, length, slice_index, OnOk, OnErr};
-ghost use Rattle.std.specs.Io.KnownBytes.{Appends};
+ghost use Rattle.std.specs.Prelude.{◌≡◌, ◌+◌, ◌-◌, ◌*◌, ◌/◌, ◌<◌, ◌≤◌, ◌++◌, codes, decimal, is_ok};
 ghost use Rattle.std.specs.List.{flat_map, range_with_len};
 ghost use Rattle.arrayvec.specs.ArrayString.{array_string_len};
-ghost use Rattle.cape_io.specs.Devices.{PutsFront, Rose};
+ghost use Rattle.cape_io.specs.Views.{Writes};
 ghost use Rattle.bit_laws.specs.Digits.{hex_word};
 ghost use Rattle.rvv_meaning.specs.Texts.{newline};
 ghost use Rattle.report_texts.specs.StateTexts.{word_line, number_line, register_line, register_lines, control_lines, hex_byte, vector_byte, vector_bytes, vector_line, vector_lines, state_text, flag};
 
-use crate::text::{Line, push_byte, push_hex, put_line};
+use crate::text::{Line, push_byte, push_hex, write_line};
 use cape_io::{Failed, Sink};
 use itoa::Buffer;
 use machine::Machine;
@@ -20,7 +19,7 @@ const REGISTERS: u8 = 32;
 // The bits of a byte.
 const BYTE_BITS: u32 = 8;
 
-// The most bytes of a vector register that are put at once.
+// The most bytes of a vector register that are written at once.
 const PIECE: u32 = 64;
 
 // Appends a space, a word and the end of the line.
@@ -100,88 +99,82 @@ fn vector_name(r: u8) -> Line
     line
 }
 
-// The bytes of a vector register from one on and before another.
-fn byte_digits(machine: &Machine, r: u8, first: u32, behind: u32) -> Line
-    requires register { r < 32 }
-    requires order { first ≤ behind }
-    requires end { behind ≤ machine.now.core.csrs.vlen / 8 }
-    requires few { behind ≤ first + 64 }
-    ensures { result.bytes ≡ flat_map (vector_byte machine.now.core r) (range_with_len first (behind - first)) }
+// The end of a line.
+fn line_end() -> Line
+    ensures { result.bytes ≡ newline }
 {
     let mut line = Line::new();
-    for j in first..behind {
+    line.push_str("\n");
+    line
+}
+
+// The bytes of a vector register from one on and before another.
+fn byte_digits(machine: &Machine, r: u8, first: u32, after: u32) -> Line
+    requires register { r < 32 }
+    requires order { first ≤ after }
+    requires end { after ≤ machine.now.core.csrs.vlen / 8 }
+    requires few { after ≤ first + 64 }
+    ensures { result.bytes ≡ flat_map (vector_byte machine.now.core r) (range_with_len first (after - first)) }
+{
+    let mut line = Line::new();
+    for j in first..after {
         push_byte(&mut line, machine.vreg_byte(r, j));
     }
     line
 }
 
-// Puts the bytes of a vector register.
-fn put_bytes<E: Sink>(machine: &Machine, r: u8, err: &mut E) -> Result<(), Failed>
+// Writes the bytes of a vector register.
+fn write_bytes<E: Sink>(machine: &Machine, r: u8, err: &mut E) -> Result<(), Failed>
     requires register { r < 32 }
-    ensures whole { OnOk result (Appends (E.held err.old) (E.held err.new) (vector_bytes machine.now.core r)) }
-    ensures front { OnErr result (PutsFront (E.held err.old) (E.held err.new) (vector_bytes machine.now.core r)) }
-    ensures cause { OnErr result (Rose (E.faults err.old) (E.faults err.new)) }
-    ensures later { E.faults err.old ≤ E.faults err.new }
+    ensures { Writes E.Sink (vector_bytes machine.now.core r) (is_ok result) err.old err.new }
 {
     let bytes = machine.csrs().vlen / BYTE_BITS;
     let mut first = 0;
     while first < bytes {
-        let behind = first + (bytes - first).min(PIECE);
-        put_line(&byte_digits(machine, r, first, behind), err)?;
-        first = behind;
+        let after = first + (bytes - first).min(PIECE);
+        write_line(&byte_digits(machine, r, first, after), err)?;
+        first = after;
     }
     Ok(())
 }
 
-// Puts the line of a vector register.
-fn put_vector<E: Sink>(machine: &Machine, r: u8, err: &mut E) -> Result<(), Failed>
+// Writes the line of a vector register.
+fn write_vector<E: Sink>(machine: &Machine, r: u8, err: &mut E) -> Result<(), Failed>
     requires register { r < 32 }
-    ensures whole { OnOk result (Appends (E.held err.old) (E.held err.new) (vector_line machine.now.core r)) }
-    ensures front { OnErr result (PutsFront (E.held err.old) (E.held err.new) (vector_line machine.now.core r)) }
-    ensures cause { OnErr result (Rose (E.faults err.old) (E.faults err.new)) }
-    ensures later { E.faults err.old ≤ E.faults err.new }
+    ensures { Writes E.Sink (vector_line machine.now.core r) (is_ok result) err.old err.new }
 {
-    put_line(&vector_name(r), err)?;
-    put_bytes(machine, r, err)?;
-    err.put(b"\n")
+    write_line(&vector_name(r), err)?;
+    write_bytes(machine, r, err)?;
+    write_line(&line_end(), err)
 }
 
-// Puts the lines of the registers.
-fn put_registers<E: Sink>(machine: &Machine, err: &mut E) -> Result<(), Failed>
-    ensures whole { OnOk result (Appends (E.held err.old) (E.held err.new) (register_lines machine.now.core)) }
-    ensures front { OnErr result (PutsFront (E.held err.old) (E.held err.new) (register_lines machine.now.core)) }
-    ensures cause { OnErr result (Rose (E.faults err.old) (E.faults err.new)) }
-    ensures later { E.faults err.old ≤ E.faults err.new }
+// Writes the lines of the registers.
+fn write_registers<E: Sink>(machine: &Machine, err: &mut E) -> Result<(), Failed>
+    ensures { Writes E.Sink (register_lines machine.now.core) (is_ok result) err.old err.new }
 {
     for r in 0..REGISTERS {
-        put_line(&register_line(machine, r), err)?;
+        write_line(&register_line(machine, r), err)?;
     }
     Ok(())
 }
 
-// Puts the lines of the vector registers.
-fn put_vectors<E: Sink>(machine: &Machine, err: &mut E) -> Result<(), Failed>
-    ensures whole { OnOk result (Appends (E.held err.old) (E.held err.new) (vector_lines machine.now.core)) }
-    ensures front { OnErr result (PutsFront (E.held err.old) (E.held err.new) (vector_lines machine.now.core)) }
-    ensures cause { OnErr result (Rose (E.faults err.old) (E.faults err.new)) }
-    ensures later { E.faults err.old ≤ E.faults err.new }
+// Writes the lines of the vector registers.
+fn write_vectors<E: Sink>(machine: &Machine, err: &mut E) -> Result<(), Failed>
+    ensures { Writes E.Sink (vector_lines machine.now.core) (is_ok result) err.old err.new }
 {
     for r in 0..REGISTERS {
-        put_vector(machine, r, err)?;
+        write_vector(machine, r, err)?;
     }
     Ok(())
 }
 
-/// Puts the place, the registers, the control registers and the vector registers, one a line. It puts no piece of more
-/// than 240 bytes; at `Failed` it put some front of the text.
-pub fn put_state<E: Sink>(machine: &Machine, err: &mut E) -> Result<(), Failed>
-    ensures whole { OnOk result (Appends (E.held err.old) (E.held err.new) (state_text machine.now.core)) }
-    ensures front { OnErr result (PutsFront (E.held err.old) (E.held err.new) (state_text machine.now.core)) }
-    ensures cause { OnErr result (Rose (E.faults err.old) (E.faults err.new)) }
-    ensures later { E.faults err.old ≤ E.faults err.new }
+/// Writes the place, the registers, the control registers and the vector registers, one a line. No piece has
+/// more than 240 bytes; at `Failed` it wrote some prefix of the text.
+pub fn write_state<E: Sink>(machine: &Machine, err: &mut E) -> Result<(), Failed>
+    ensures { Writes E.Sink (state_text machine.now.core) (is_ok result) err.old err.new }
 {
-    put_line(&pc_line(machine.pc()), err)?;
-    put_registers(machine, err)?;
-    put_line(&control_lines(machine.csrs()), err)?;
-    put_vectors(machine, err)
+    write_line(&pc_line(machine.pc()), err)?;
+    write_registers(machine, err)?;
+    write_line(&control_lines(machine.csrs()), err)?;
+    write_vectors(machine, err)
 }

@@ -1,7 +1,6 @@
 // Pieces of text.
-ghost use Rattle.std.specs.Prelude.{◌≡◌, ◌+◌, ◌<◌, ◌≤◌, ◌++◌, OnOk, OnErr};
-ghost use Rattle.std.specs.Io.KnownBytes.{Appends};
-ghost use Rattle.cape_io.specs.Devices.{PutsFront, Rose};
+ghost use Rattle.std.specs.Prelude.{◌≡◌, ◌+◌, ◌<◌, ◌≤◌, ◌++◌, is_ok};
+ghost use Rattle.cape_io.specs.Views.{Writes};
 ghost use Rattle.arrayvec.specs.ArrayString.{array_string_len};
 ghost use Rattle.bit_laws.specs.Digits.{hex_digit, hex_word};
 ghost use Rattle.report_texts.specs.StateTexts.{hex_byte};
@@ -33,7 +32,7 @@ fn hex_glyph(digit: u32) -> char
     }
 }
 
-/// Appends a number in eight hexadecimal digits, in lower case.
+// Appends a number in eight hexadecimal digits, in lower case.
 #[tactic(auto, unfolding(bit_laws::specs::Digits::hex_word))]
 pub(crate) fn push_hex(line: &mut Line, value: u32)
     requires { array_string_len line.old + 8 ≤ 240 }
@@ -45,7 +44,7 @@ pub(crate) fn push_hex(line: &mut Line, value: u32)
     }
 }
 
-/// Appends a byte in two hexadecimal digits, in lower case.
+// Appends a byte in two hexadecimal digits, in lower case.
 pub(crate) fn push_byte(line: &mut Line, value: u8)
     requires { array_string_len line.old + 2 ≤ 240 }
     ensures text { line.new.bytes ≡ line.old.bytes ++ hex_byte value }
@@ -56,12 +55,10 @@ pub(crate) fn push_byte(line: &mut Line, value: u8)
     line.push(hex_glyph(value % RADIX));
 }
 
-/// Puts a line; at `Failed` it put some front of it.
-pub fn put_line<E: Sink>(line: &Line, err: &mut E) -> Result<(), Failed>
-    ensures whole { OnOk result (Appends (E.held err.old) (E.held err.new) line.now.bytes) }
-    ensures front { OnErr result (PutsFront (E.held err.old) (E.held err.new) line.now.bytes) }
-    ensures cause { OnErr result (Rose (E.faults err.old) (E.faults err.new)) }
-    ensures later { E.faults err.old ≤ E.faults err.new }
+/// Writes a line; at `Failed` it wrote some prefix of it.
+#[tactic(auto, using(cape_io::proofs::Writing::writes_put))]
+pub fn write_line<E: Sink>(line: &Line, err: &mut E) -> Result<(), Failed>
+    ensures { Writes E.Sink line.now.bytes (is_ok result) err.old err.new }
 {
     err.put(line.as_str().as_bytes())
 }

@@ -13,7 +13,7 @@ const MASK: u8 = 0;
 
 const MASK_WORDS: [u32; 2] = [0x35, 3];
 
-// A row that windows and free elements are written into, what it holds before, and a row beside it that is zero.
+// A row that windows and agnostic elements are written into, what it holds before, and a row beside it that is zero.
 const WRITTEN: u8 = 40;
 
 const OLD_WORDS: [u32; 2] = [0x3333_3333, 0x3333_3333];
@@ -114,7 +114,7 @@ fn windows_of_each_width(rt: HostRuntime) -> Result<(), Fail> {
     Ok(())
 }
 
-// How free elements are asked for, and the words that they leave in their row.
+// How agnostic elements are asked for, and the words that they leave in their row.
 #[derive(Clone, Copy)]
 struct Free {
     width: u8,

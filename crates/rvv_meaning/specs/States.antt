@@ -54,7 +54,7 @@ reg c r = slice_index c.regs r
 abbrev pub retired_to : ℕ → Core → Core
 retired_to target c = record c { pc = target; csrs = record c.csrs { retired = c.csrs.retired + 1 } }
 
--- the next one is the word behind this one
+-- the next one is the word after this one
 abbrev pub advanced : Core → Core
 advanced c = retired_to (low 32 (c.pc + 4)) c
 

@@ -1,4 +1,8 @@
--- Rows that are written place by place, the mask, and bits that are packed into a row.
+-- Rows that are written place by place, words of ranges, rows that are written lane by lane, the mask, and bits that are
+-- packed into a row.
 pub mod Parts
 pub mod Mask
+pub mod Spans
+pub mod LaneRows
 pub mod Packed
+pub mod SubarrayRows

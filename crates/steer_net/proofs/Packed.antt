@@ -91,14 +91,14 @@ packing-more from under first k old i bit h e =
     (λ (q : i ≡ first + k). rw (q, eq-eqb (first + k) (first + k) refl, packing-at from under first k old, h) e)
     (λ (q : i ≡ first + k → ⊥). rw (ne_eqb i (first + k) q) (packing-other from under first k old i q)) (cases_eq i (first + k))
 
--- a row by words that were packed
-pub by_packed : (from under to width first : ℕ) (words : List ℕ) (s : Slices)
-    → ((i : ℕ) → i < 32 * s.columns → mask_bit words i ≡ cond (is_packed under width first s i) (top_bit width s from (i - first)) (bit_in s to i))
-    → numbered to 1 0 (mask_bit words) s ≡ packed from under to width first s
-by_packed from under to width first words s h =
-    same_slices (numbered to 1 0 (mask_bit words) s) (packed from under to width first s) refl
+-- a row by the bits that were packed
+pub by_packed : (from under to width first : ℕ) (what : ℕ → Bool) (s : Slices)
+    → ((i : ℕ) → i < 32 * s.columns → what i ≡ cond (is_packed under width first s i) (top_bit width s from (i - first)) (bit_in s to i))
+    → numbered to 1 0 what s ≡ packed from under to width first s
+by_packed from under to width first what s h =
+    same_slices (numbered to 1 0 what s) (packed from under to width first s) refl
     (λ sub r col. at (eqb r to) (placed s.columns sub col) (is_packed under width first s (col * 32 + sub))
-    (mask_bit words (0 + position 1 sub col)) (top_bit width s from (col * 32 + sub - first)) (s.bit sub r col)
+    (what (0 + position 1 sub col)) (top_bit width s from (col * 32 + sub - first)) (s.bit sub r col)
     (λ b p. let q = and_parts (ltb sub 32) (ltb col s.columns) p in one sub r col (ltb-true sub 32 q.0) (ltb-true col s.columns q.1) b))
     (λ sub col. refl) refl
   where
@@ -108,7 +108,7 @@ by_packed from under to width first words s h =
     at false p k x y o h = refl
 
     one : (sub r col : ℕ) → sub < 32 → col < s.columns → eqb r to ≡ true
-        → mask_bit words (0 + position 1 sub col) ≡ cond (is_packed under width first s (col * 32 + sub)) (top_bit width s from (col * 32 + sub - first)) (s.bit sub r col)
+        → what (0 + position 1 sub col) ≡ cond (is_packed under width first s (col * 32 + sub)) (top_bit width s from (col * 32 + sub - first)) (s.bit sub r col)
     one sub r col l m b =
         let q : 0 + position 1 sub col ≡ col * 32 + sub = omega arith in
         let reach : col * 32 + sub < 32 * s.columns = omega arith in

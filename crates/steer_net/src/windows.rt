@@ -1,29 +1,22 @@
-ghost use Rattle.std.specs.Prelude.{◌≡◌, ℕ, ◌+◌, ◌*◌, ◌/◌, ◌<◌, ◌≤◌, ◌^◌, true, eqb};
-ghost use Rattle.std.specs.Int.{bit_at};
+ghost use Rattle.std.specs.Prelude.{◌≡◌, ◌<◌, true};
 ghost use Rattle.steer_net.specs.Network.{windowed, freed, numbered, bit_in, is_width, MaskReaches};
-ghost use Rattle.steer_net.specs.Rows.{mask_bit, is_one, partly, is_between};
+ghost use Rattle.steer_net.specs.Rows.{is_one};
 
+use crate::columns::write_over_mask;
+use crate::lanes::write_lanes;
+use crate::sizes::MASK;
 use bit_rows::Planes;
 
-// A chain has at most so many columns.
-pub(crate) const MAX_COLUMNS: usize = 2048;
-
-// Each column of a row has a bit in each subarray.
-pub(crate) const SUBARRAYS: u8 = 32;
-
-// The register that is the mask.
-const MASK: u8 = 0;
-
-/// Which elements of a row become ones: `on` and `off` say it of an element from `from` on and
-/// below `to`, where its bit of the mask is 1 and where it is 0, and `tail` says it of an element
-/// from `to` on.
+// Which elements of a row become ones: `on` and `off` say it of an element from `from` on and
+// below `to`, where its bit of the mask is 1 and where it is 0, and `tail` says it of an element
+// from `to` on.
 #[derive(Clone, Copy)]
-struct Ones {
-    from: u32,
-    to: u32,
-    on: bool,
-    off: bool,
-    tail: bool,
+pub(crate) struct Ones {
+    pub(crate) from: u32,
+    pub(crate) to: u32,
+    pub(crate) on: bool,
+    pub(crate) off: bool,
+    pub(crate) tail: bool,
 }
 
 /// Writes into a row which elements of `width` bits lie from `from` on and below `to` and, where
@@ -89,7 +82,7 @@ pub fn free<P: Planes>(
     write_ones(p, row, width, first, ones);
 }
 
-/// Writes the row by the mask as register 0 stands before, which is read only where it counts.
+// Writes the row by the mask as register 0 stands before.
 fn write_ones<P: Planes>(p: &mut P, row: u8, width: u8, first: u32, ones: Ones)
     requires row { row < 64 }
     requires width { is_width width ≡ true }
@@ -101,147 +94,9 @@ fn write_ones<P: Planes>(p: &mut P, row: u8, width: u8, first: u32, ones: Ones)
     ensures updates { P.updates p.new ≡ P.updates p.old }
     ensures passes { P.passes p.new ≡ P.passes p.old }
 {
-    let mut mask = [0; MAX_COLUMNS];
-    if ones.on != ones.off {
-        read_row(p, MASK, &mut mask);
-    }
-    write_row(p, row, width, first, ones, &mask);
-}
-
-/// Reads a row into words of its columns.
-pub(crate) fn read_row<P: Planes>(p: &P, row: u8, words: &mut [u32; MAX_COLUMNS])
-    requires { row < 64 }
-    ensures { (e : ℕ) → e < 32 * (P.slices p.now).columns
-        → mask_bit words.new e ≡ bit_in (P.slices p.now) row e }
-{
-    for col in 0..p.columns() {
-        words[col as usize] = row_word(p, row, col);
-    }
-}
-
-/// The word of a column of a row: bit s of it is the bit in subarray s.
-fn row_word<P: Planes>(p: &P, row: u8, col: u32) -> u32
-    requires row { row < 64 }
-    requires column { col < (P.slices p.now).columns }
-    ensures { (s : ℕ) → s < 32 → eqb (bit_at result s) 1 ≡ (P.slices p.now).bit s row col }
-{
-    let mut word = 0u32;
-    for sub in 0..SUBARRAYS {
-        if p.bit(sub, row, col) {
-            word |= 1 << sub;
-        }
-    }
-    word
-}
-
-/// Writes a row by the words of its columns.
-pub(crate) fn write_words<P: Planes>(p: &mut P, row: u8, words: &[u32; MAX_COLUMNS])
-    requires { row < 64 }
-    ensures slices { P.slices p.new ≡ numbered row 1 0 (mask_bit words.now) (P.slices p.old) }
-    ensures searches { P.searches p.new ≡ P.searches p.old }
-    ensures updates { P.updates p.new ≡ P.updates p.old }
-    ensures passes { P.passes p.new ≡ P.passes p.old }
-{
-    let ones = Ones {
-        from: 0,
-        to: u32::from(SUBARRAYS) * p.columns(),
-        on: true,
-        off: false,
-        tail: false,
-    };
-    write_row(p, row, 1, 0, ones, words);
-}
-
-/// Writes the row by a mask.
-fn write_row<P: Planes>(
-    p: &mut P,
-    row: u8,
-    width: u8,
-    first: u32,
-    ones: Ones,
-    mask: &[u32; MAX_COLUMNS],
-)
-    requires row { row < 64 }
-    requires width { is_width width ≡ true }
-    ensures slices { P.slices p.new
-        ≡ numbered row width first (is_one ones (mask_bit mask.now)) (P.slices p.old) }
-    ensures searches { P.searches p.new ≡ P.searches p.old }
-    ensures updates { P.updates p.new ≡ P.updates p.old }
-    ensures passes { P.passes p.new ≡ P.passes p.old }
-{
-    let per_column = u32::from(SUBARRAYS / width);
-    for col in 0..p.columns() {
-        // The sum of two u32 may not fit one.
-        let number = u64::from(first) + u64::from(col * per_column);
-        write_column(p, row, width, col, number, ones, mask);
-    }
-}
-
-/// Writes one column of the row, whose first element has the number `number`.
-fn write_column<P: Planes>(
-    p: &mut P,
-    row: u8,
-    width: u8,
-    col: u32,
-    number: u64,
-    ones: Ones,
-    mask: &[u32; MAX_COLUMNS],
-)
-    requires row { row < 64 }
-    requires width { is_width width ≡ true }
-    requires column { col < (P.slices p.old).columns }
-    requires number { number < 2 ^ 63 }
-    ensures slices { P.slices p.new
-        ≡ partly (λ sub c. eqb c col) row (λ sub c. is_one ones (mask_bit mask.now) (number + sub / width)) (P.slices p.old) }
-    ensures searches { P.searches p.new ≡ P.searches p.old }
-    ensures updates { P.updates p.new ≡ P.updates p.old }
-    ensures passes { P.passes p.new ≡ P.passes p.old }
-{
-    for k in 0..SUBARRAYS / width {
-        let bit = ones.hold(mask, number + u64::from(k));
-        write_element(p, row, width, col, k * width, bit);
-    }
-}
-
-/// Writes a bit into an element: into `width` subarrays of a column, from the subarray `low` on.
-fn write_element<P: Planes>(p: &mut P, row: u8, width: u8, col: u32, low: u8, bit: bool)
-    requires row { row < 64 }
-    requires room { low + width ≤ 32 }
-    requires column { col < (P.slices p.old).columns }
-    ensures slices { P.slices p.new
-        ≡ partly (is_between col low (low + width)) row (λ sub c. bit) (P.slices p.old) }
-    ensures searches { P.searches p.new ≡ P.searches p.old }
-    ensures updates { P.updates p.new ≡ P.updates p.old }
-    ensures passes { P.passes p.new ≡ P.passes p.old }
-{
-    for sub in low..low + width {
-        p.set_bit(sub, row, col, bit);
-    }
-}
-
-impl Ones {
-    /// Whether the element of a number becomes ones.
-    fn hold(&self, mask: &[u32; MAX_COLUMNS], number: u64) -> bool
-        ensures { result ≡ is_one self.now (mask_bit mask.now) number }
-    {
-        if number >= u64::from(self.to) {
-            self.tail
-        } else if number < u64::from(self.from) {
-            false
-        } else if is_set(mask, number) {
-            self.on
-        } else {
-            self.off
-        }
-    }
-}
-
-/// A bit of the mask; the numbers past its end have none.
-fn is_set(mask: &[u32; MAX_COLUMNS], number: u64) -> bool
-    ensures { result ≡ mask_bit mask.now number }
-{
-    match mask.get((number / u64::from(SUBARRAYS)) as usize) {
-        Some(word) => (*word >> (number % u64::from(SUBARRAYS)) as u32) & 1 == 1,
-        None => false,
+    if row == MASK {
+        write_over_mask(p, row, width, first, ones);
+    } else {
+        write_lanes(p, row, width, first, ones);
     }
 }

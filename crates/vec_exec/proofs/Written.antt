@@ -6,7 +6,6 @@ use Rattle.std.proofs.Math.Nat.{mod-eq_of_lt}
 use Rattle.rvv_decode.specs.declared.instruction.VInstr.{VInstr}
 use Rattle.vtype_cfg.specs.declared.configuration.Cfg.{Cfg}
 use Rattle.vec_exec.specs.declared.recipes.Listed.{Listed}
-use Rattle.vec_exec.specs.declared.recipes.Listed.TheVariants.{Add, Sub, Adc, Sbc, And, Or, Xor, Minu, Min, Maxu, Max, Merge, First, Second, Eq, Ne, MadcIn, MsbcIn}
 use Rattle.vec_exec.specs.declared.recipes.Recipe.{Recipe}
 use Rattle.vec_exec.specs.Recipes.{length_of}
 use Rattle.rvv_meaning.specs.Elementwise.{is_ones}
@@ -24,28 +23,9 @@ pub flag-few : (b : Bool) (n : ℕ) → cond b n 0 ≤ n
 flag-few true n = omega arith
 flag-few false n = omega arith
 
--- so many operations a register leave a program of 8 registers within its room
-pub list-few : (list : Listed) (w : ℕ) → w ≤ 32 → length_of list w ≤ 30000
-unfolding length_of
-list-few Add w most = omega arith
-list-few Sub w most = omega arith
-list-few Adc w most = omega arith
-list-few Sbc w most = omega arith
-list-few And w most = omega arith
-list-few Or w most = omega arith
-list-few Xor w most = omega arith
-list-few Minu w most = omega arith
-list-few Min w most = omega arith
-list-few Maxu w most = omega arith
-list-few Max w most = omega arith
-list-few Merge w most = omega arith
-list-few First w most = omega arith
-list-few Second w most = omega arith
-list-few Eq w most = omega arith
-list-few Ne w most = omega arith
-list-few MadcIn w most = omega arith
-list-few MsbcIn w most = omega arith
-list-few _ w most = omega arith
+-- so many operations of a list leave a program of 8 registers within its room
+abbrev pub ListsFew : Type 0
+ListsFew = (list : Listed) (w : ℕ) → w ≤ 32 → length_of list w ≤ 30000
 
 -- ---- registers
 
@@ -102,7 +82,7 @@ fill-parts false = refl
 
 -- ---- the room of a program
 
-module _ (r : Recipe) (i : VInstr) (c : Cfg) (count : ℕ) (narrow : c.vtype.sew ≤ 32) (few : count ≤ 8) where
+module _ (r : Recipe) (i : VInstr) (c : Cfg) (count : ℕ) (list-few : ListsFew) (narrow : c.vtype.sew ≤ 32) (few : count ≤ 8) where
   pub registers-few : count * register_length r i c ≤ 8 * 30005
   registers-few =
       let list = list-few (list_for r i) c.vtype.sew narrow in

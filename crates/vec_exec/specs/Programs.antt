@@ -84,7 +84,7 @@ abbrev pub window_list : Cfg → (reads masked : Bool) → (first : ℕ) → Lis
 window_list c reads masked first =
     active_operation c c.vtype.sew first masked ∷ cond reads (Window mask_row c.vtype.sew first c.vstart c.vl true ∷ []) []
 
--- ones into the free elements of a register, where free elements become ones
+-- ones into the agnostic elements of a register, where agnostic elements become ones
 abbrev pub fill_list : Cfg → (first : ℕ) → (masked : Bool) → (to : ℕ) → List MicroOp
 fill_list c first masked to =
     cond (is_ones c.policy) (free_operation c c.vtype.sew first masked c.vtype.vta ∷ micros c.vtype.sew (fill_step c.vtype.sew to ∷ [])) []
@@ -98,7 +98,7 @@ abbrev pub free_count : (ones : Bool) → (g : ℕ) → ℕ
 free_count ones zero = cond ones 1 0
 free_count ones (suc g) = 0
 
--- ones into the free bits of a mask, where free elements become ones
+-- ones into the free bits of a mask, where agnostic elements become ones
 abbrev pub mask_fill_list : Cfg → (to : ℕ) → List MicroOp
 mask_fill_list c to = cond (is_ones c.policy) (micros c.vtype.sew (fill_step c.vtype.sew to ∷ [])) []
 
@@ -167,7 +167,7 @@ unfoldable pub prog : VInstr → Cfg → (scalar : ℕ) → List MicroOp
 prog i c x = option_map_or (λ r. program_by r i c x) (recipe_for i.op) []
 
 -- The searches, updates and passes of the program of an instruction: of its scalar; for each register of the destination of
--- the kind and, where free elements become ones, of the fill; but one fill where the result is a mask.
+-- the kind and, where agnostic elements become ones, of the fill; but one fill where the result is a mask.
 unfoldable pub cost : VInstr → Cfg → Counts
 cost i c = option_map_or (λ r. cost_by r i c) (recipe_for i.op) no_counts
 

@@ -10,11 +10,8 @@ ghost use Rattle.vec_exec.specs.Programs.{IsPlaced, IsMaskPlaced};
 
 use crate::recipes::Recipe;
 use frame_meaning::Order;
-use micro_ir::Place;
+use micro_ir::{Place, SCALAR_ROW};
 use rvv_decode::{Form, VInstr};
-
-// The row of the scalar operand.
-const SCALAR_ROW: u8 = 34;
 
 // The bits of a word.
 const WORD_BITS: u32 = 32;

@@ -11,7 +11,7 @@ ghost use Rattle.vec_exec.specs.Recipes.{recipe_for};
 ghost use Rattle.vec_exec.specs.Programs.{prog, program_by, is_engine, RealisesInstruction, cost, cost_by, scalar_list};
 
 use crate::operands::{at_rows, immediate};
-use crate::recipes::{Recipe, makes_bits, recipe_of};
+use crate::recipes::{Recipe, list_length_law, makes_bits, recipe_of};
 use crate::registers::{emit_mask_fill, emit_mask_registers, emit_registers};
 use bit_laws::{W8, W16, W32, Width};
 use gen_logic::emit_splat;
@@ -91,6 +91,7 @@ fn emit_program_at<W: Width>(recipe: Recipe, i: &VInstr, cfg: &Cfg, scalar: u32,
     ensures range { AllInRange (cfg.now.vlen / 32) buf.new.ops }
     ensures spare { buf.new.spare + length buf.new.ops ≡ buf.old.spare }
 {
+    list_length_law();
     let count = registers(cfg);
     emit_scalar::<W>(recipe, i, cfg, scalar, buf);
     if makes_bits(recipe.masked) {
@@ -126,7 +127,7 @@ fn emit_program(recipe: Recipe, i: &VInstr, cfg: &Cfg, scalar: u32, buf: &mut Mi
 
 /// Writes the program of an instruction into an empty buffer with room for 262,144 operations: its scalar into a row,
 /// where it has one; for each register of its groups, in rising order, its active elements, their mask bits, where the
-/// mask is an operand, and the list of its kind; and what fills the free elements, where these become ones. `scalar` is
+/// mask is an operand, and the list of its kind; and what fills the agnostic elements, where these become ones. `scalar` is
 /// the value of x[rs1], where the instruction takes it. The instruction is legal under the configuration, and one on
 /// elements that is built.
 pub fn plan(i: &VInstr, cfg: &Cfg, scalar: u32, buf: &mut MicroBuf)

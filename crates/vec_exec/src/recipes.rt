@@ -1,50 +1,25 @@
 // The recipe of each operation: the lists of micro-operations by which it is computed. A kind of instruction is a row of the
-// table in `recipe_of`, an arm of `emit_list`, and the rows of specs/Recipes.
-ghost use Rattle.std.specs.Prelude.{◌≡◌, ◌<◌, ◌≤◌, ◌+◌, ◌++◌, true, false};
+// table in `recipe_of` and one of `recipe_for` in specs/Recipes; a generator is an arm of `emit_list`.
+ghost use Rattle.std.specs.Prelude.{◌≡◌, ℕ, ◌<◌, ◌≤◌, ◌+◌, ◌++◌, true, false};
 ghost use Rattle.micro_ir.specs.Measures.{Measured};
 ghost use Rattle.micro_ir.specs.WorkRows.{IsOperandRow};
+ghost use Rattle.vec_exec.specs.declared.recipes.Listed.{Listed};
 ghost use Rattle.vec_exec.specs.Recipes.{recipe_for, list_of, counts_of, length_of, Computes, makes_bits as tells_bits};
 
 use bit_laws::Width;
 use frame_meaning::Order;
-use gen_arith::{
-    emit_adc, emit_add, emit_eq, emit_gt, emit_gtu, emit_le, emit_leu, emit_lt, emit_ltu,
-    emit_madc, emit_madc_in, emit_max, emit_maxu, emit_min, emit_minu, emit_msbc, emit_msbc_in,
-    emit_ne, emit_sbc, emit_sub,
-};
-use gen_logic::{emit_and, emit_merge, emit_move, emit_or, emit_xor};
+use gen_arith::{Choice, Sum, Truth, arith_length_law, emit_choice, emit_sum, emit_truth};
+use gen_logic::{Logic, emit_logic, logic_length_law};
 use micro_ir::{MicroBuf, Place};
 use rvv_decode::{OpiOp, VOp};
 
-/// A list of a generator. `First` and `Second` copy one of the two operands.
+/// A list: a generator's table, and a kind of it.
 #[derive(Clone, Copy, PartialEq, Eq)]
 pub(crate) enum Listed {
-    Add,
-    Sub,
-    Adc,
-    Sbc,
-    And,
-    Or,
-    Xor,
-    Minu,
-    Min,
-    Maxu,
-    Max,
-    Merge,
-    First,
-    Second,
-    Madc,
-    MadcIn,
-    Msbc,
-    MsbcIn,
-    Eq,
-    Ne,
-    Ltu,
-    Lt,
-    Leu,
-    Le,
-    Gtu,
-    Gt,
+    Bits(Logic),
+    Sums(Sum),
+    Truths(Truth),
+    Choices(Choice),
 }
 
 /// How an operation is computed: the list where the mask is no operand, and the one where it is; whether the mask is one
@@ -106,30 +81,30 @@ pub(crate) fn recipe_of(op: VOp) -> Option<Recipe>
         return None;
     };
     let recipe = match op {
-        OpiOp::Vadd => of_two(Listed::Add),
-        OpiOp::Vsub => of_two(Listed::Sub),
-        OpiOp::Vrsub => ordered(Listed::Sub, Order::Reversed),
-        OpiOp::Vadc => with_mask(Listed::Add, Listed::Adc),
-        OpiOp::Vsbc => with_mask(Listed::Sub, Listed::Sbc),
-        OpiOp::Vmadc => with_mask(Listed::Madc, Listed::MadcIn),
-        OpiOp::Vmsbc => with_mask(Listed::Msbc, Listed::MsbcIn),
-        OpiOp::Vand => of_two(Listed::And),
-        OpiOp::Vor => of_two(Listed::Or),
-        OpiOp::Vxor => of_two(Listed::Xor),
-        OpiOp::Vmseq => of_two(Listed::Eq),
-        OpiOp::Vmsne => of_two(Listed::Ne),
-        OpiOp::Vmsltu => of_two(Listed::Ltu),
-        OpiOp::Vmslt => of_two(Listed::Lt),
-        OpiOp::Vmsleu => of_two(Listed::Leu),
-        OpiOp::Vmsle => of_two(Listed::Le),
-        OpiOp::Vmsgtu => of_two(Listed::Gtu),
-        OpiOp::Vmsgt => of_two(Listed::Gt),
-        OpiOp::Vminu => of_two(Listed::Minu),
-        OpiOp::Vmin => of_two(Listed::Min),
-        OpiOp::Vmaxu => of_two(Listed::Maxu),
-        OpiOp::Vmax => of_two(Listed::Max),
-        OpiOp::Vmerge => with_mask(Listed::First, Listed::Merge),
-        OpiOp::VmvV => ordered(Listed::Second, Order::Second),
+        OpiOp::Vadd => of_two(Listed::Sums(Sum::Add)),
+        OpiOp::Vsub => of_two(Listed::Sums(Sum::Sub)),
+        OpiOp::Vrsub => ordered(Listed::Sums(Sum::Sub), Order::Reversed),
+        OpiOp::Vadc => with_mask(Listed::Sums(Sum::Add), Listed::Sums(Sum::Adc)),
+        OpiOp::Vsbc => with_mask(Listed::Sums(Sum::Sub), Listed::Sums(Sum::Sbc)),
+        OpiOp::Vmadc => with_mask(Listed::Truths(Truth::Madc), Listed::Truths(Truth::MadcIn)),
+        OpiOp::Vmsbc => with_mask(Listed::Truths(Truth::Msbc), Listed::Truths(Truth::MsbcIn)),
+        OpiOp::Vand => of_two(Listed::Bits(Logic::And)),
+        OpiOp::Vor => of_two(Listed::Bits(Logic::Or)),
+        OpiOp::Vxor => of_two(Listed::Bits(Logic::Xor)),
+        OpiOp::Vmseq => of_two(Listed::Truths(Truth::Eq)),
+        OpiOp::Vmsne => of_two(Listed::Truths(Truth::Ne)),
+        OpiOp::Vmsltu => of_two(Listed::Truths(Truth::Ltu)),
+        OpiOp::Vmslt => of_two(Listed::Truths(Truth::Lt)),
+        OpiOp::Vmsleu => of_two(Listed::Truths(Truth::Leu)),
+        OpiOp::Vmsle => of_two(Listed::Truths(Truth::Le)),
+        OpiOp::Vmsgtu => of_two(Listed::Truths(Truth::Gtu)),
+        OpiOp::Vmsgt => of_two(Listed::Truths(Truth::Gt)),
+        OpiOp::Vminu => of_two(Listed::Choices(Choice::Minu)),
+        OpiOp::Vmin => of_two(Listed::Choices(Choice::Min)),
+        OpiOp::Vmaxu => of_two(Listed::Choices(Choice::Maxu)),
+        OpiOp::Vmax => of_two(Listed::Choices(Choice::Max)),
+        OpiOp::Vmerge => with_mask(Listed::Bits(Logic::First), Listed::Bits(Logic::Merge)),
+        OpiOp::VmvV => ordered(Listed::Bits(Logic::Second), Order::Second),
         _ => return None,
     };
     Some(recipe)
@@ -139,21 +114,15 @@ pub(crate) fn recipe_of(op: VOp) -> Option<Recipe>
 pub(crate) fn makes_bits(list: Listed) -> bool
     ensures { result ≡ tells_bits list }
 {
-    match list {
-        Listed::Madc
-        | Listed::MadcIn
-        | Listed::Msbc
-        | Listed::MsbcIn
-        | Listed::Eq
-        | Listed::Ne
-        | Listed::Ltu
-        | Listed::Lt
-        | Listed::Leu
-        | Listed::Le
-        | Listed::Gtu
-        | Listed::Gt => true,
-        _ => false,
-    }
+    matches!(list, Listed::Truths(_))
+}
+
+// Does nothing. It shows that no list is longer at the widths of elements.
+pub(crate) fn list_length_law()
+    ensures { (list : Listed) (w : ℕ) → w ≤ 32 → length_of list w ≤ 30000 }
+{
+    logic_length_law();
+    arith_length_law();
 }
 
 /// Appends a list.
@@ -169,31 +138,9 @@ pub(crate) fn emit_list<W: Width>(list: Listed, at: &Place, buf: &mut MicroBuf)
     ensures cost { Measured (counts_of list W.BITS) (length_of list W.BITS) (list_of list W.BITS at.now.a at.now.b at.now.addend at.now.to) }
 {
     match list {
-        Listed::Add => emit_add::<W>(buf, at),
-        Listed::Sub => emit_sub::<W>(buf, at),
-        Listed::Adc => emit_adc::<W>(buf, at),
-        Listed::Sbc => emit_sbc::<W>(buf, at),
-        Listed::And => emit_and::<W>(buf, at),
-        Listed::Or => emit_or::<W>(buf, at),
-        Listed::Xor => emit_xor::<W>(buf, at),
-        Listed::Minu => emit_minu::<W>(buf, at),
-        Listed::Min => emit_min::<W>(buf, at),
-        Listed::Maxu => emit_maxu::<W>(buf, at),
-        Listed::Max => emit_max::<W>(buf, at),
-        Listed::Merge => emit_merge::<W>(buf, at),
-        Listed::First => emit_move::<W>(buf, &Place { b: at.a, ..*at }),
-        Listed::Second => emit_move::<W>(buf, at),
-        Listed::Madc => emit_madc::<W>(buf, at),
-        Listed::MadcIn => emit_madc_in::<W>(buf, at),
-        Listed::Msbc => emit_msbc::<W>(buf, at),
-        Listed::MsbcIn => emit_msbc_in::<W>(buf, at),
-        Listed::Eq => emit_eq::<W>(buf, at),
-        Listed::Ne => emit_ne::<W>(buf, at),
-        Listed::Ltu => emit_ltu::<W>(buf, at),
-        Listed::Lt => emit_lt::<W>(buf, at),
-        Listed::Leu => emit_leu::<W>(buf, at),
-        Listed::Le => emit_le::<W>(buf, at),
-        Listed::Gtu => emit_gtu::<W>(buf, at),
-        Listed::Gt => emit_gt::<W>(buf, at),
+        Listed::Bits(kind) => emit_logic::<W>(buf, at, kind),
+        Listed::Sums(kind) => emit_sum::<W>(buf, at, kind),
+        Listed::Truths(kind) => emit_truth::<W>(buf, at, kind),
+        Listed::Choices(kind) => emit_choice::<W>(buf, at, kind),
     }
 }

@@ -1,6 +1,9 @@
 // The operations on the registers of a group.
 ghost use Rattle.std.specs.Prelude.{◌≡◌, ℕ, ◌+◌, ◌*◌, ◌/◌, ◌<◌, ◌≤◌, ◌++◌, cond};
 ghost use Rattle.rvv_meaning.specs.Elementwise.{is_ones};
+ghost use Rattle.micro_ir.specs.Measures.{Measured};
+ghost use Rattle.micro_ir.specs.WorkRows.{IsOperandRow};
+ghost use Rattle.vec_exec.specs.Recipes.{list_at, length_of, counts_of, Computes};
 ghost use Rattle.vec_exec.specs.Programs.{IsPlaced, IsMaskPlaced, IsMade, IsMaskMade, fill_list, window_list, list_for, register_list, register_length, registers_list, free_bits, free_count, mask_register_list, mask_register_length, mask_registers_list, mask_fill_list, reads, masked};
 
 use crate::operands::{at_rows, mask_place, place};
@@ -8,17 +11,9 @@ use crate::recipes::{Listed, Recipe, emit_list};
 use bit_laws::Width;
 use gen_logic::emit_fill;
 use mask_window::{active, free};
-use micro_ir::{MicroBuf, MicroOp};
+use micro_ir::{ACTIVE_ROW, MASK_ROW, MicroBuf, MicroOp, Place, TRUTH_ROW};
 use rvv_decode::VInstr;
 use vtype_cfg::{Cfg, Policy};
-
-// The row of active elements, and that of the mask bits where the mask is an operand.
-const ACTIVE_ROW: u8 = 32;
-
-const MASK_ROW: u8 = 33;
-
-// The row of truths, at the highest bit of each element.
-const TRUTH_ROW: u8 = 41;
 
 // The bits of an element of a mask.
 const MASK_WIDTH: u8 = 1;
@@ -64,7 +59,7 @@ fn emit_windows(cfg: &Cfg, mask: Use, first: u32, buf: &mut MicroBuf)
     }
 }
 
-// Ones into the free elements of a register, where free elements become ones.
+// Ones into the agnostic elements of a register, where agnostic elements become ones.
 fn emit_free<W: Width>(cfg: &Cfg, first: u32, masked: bool, to: u8, buf: &mut MicroBuf)
     requires width { cfg.now.vtype.sew ≡ W.BITS }
     requires to { to < 32 }
@@ -91,6 +86,23 @@ fn first_of(cfg: &Cfg, register: u8) -> u32
     u32::from(register) * (cfg.vlen / u32::from(cfg.vtype.sew))
 }
 
+// The operations that mark the elements of a register, and the list that the instruction takes, with the rows of a place.
+fn emit_marked<W: Width>(cfg: &Cfg, mask: Use, first: u32, at: &Place, buf: &mut MicroBuf)
+    requires width { cfg.now.vtype.sew ≡ W.BITS }
+    requires a { IsOperandRow at.now.a }
+    requires b { IsOperandRow at.now.b }
+    requires to { at.now.to < 32 }
+    requires room { 1 + cond mask.reads 1 0 + length_of mask.list W.BITS ≤ buf.old.spare }
+    ensures ops { buf.new.ops ≡ buf.old.ops
+        ++ window_list cfg.now mask.reads mask.masked first ++ list_at mask.list W.BITS at.now }
+    ensures spare { buf.new.spare + (1 + cond mask.reads 1 0 + length_of mask.list W.BITS) ≡ buf.old.spare }
+    ensures computes { Computes mask.list W.BITS at.now.a at.now.b at.now.addend at.now.to }
+    ensures cost { Measured (counts_of mask.list W.BITS) (length_of mask.list W.BITS) (list_at mask.list W.BITS at.now) }
+{
+    emit_windows(cfg, mask, first, buf);
+    emit_list::<W>(mask.list, at, buf);
+}
+
 // The operations on one register of the destination.
 fn emit_register<W: Width>(recipe: Recipe, i: &VInstr, cfg: &Cfg, register: u8, buf: &mut MicroBuf)
     requires width { cfg.now.vtype.sew ≡ W.BITS }
@@ -105,8 +117,7 @@ fn emit_register<W: Width>(recipe: Recipe, i: &VInstr, cfg: &Cfg, register: u8, 
     let first = first_of(cfg, register);
     let at = place(recipe, i, register);
     let mask = use_of(recipe, i);
-    emit_windows(cfg, mask, first, buf);
-    emit_list::<W>(mask.list, &at, buf);
+    emit_marked::<W>(cfg, mask, first, &at, buf);
     emit_free::<W>(cfg, first, mask.masked, at.to, buf);
 }
 
@@ -165,8 +176,7 @@ fn emit_mask_register<W: Width>(
     let first = first_of(cfg, register);
     let at = mask_place(i, register);
     let mask = use_of(recipe, i);
-    emit_windows(cfg, mask, first, buf);
-    emit_list::<W>(mask.list, &at, buf);
+    emit_marked::<W>(cfg, mask, first, &at, buf);
     emit_free_bits(cfg, mask.masked, register, buf);
     buf.push(MicroOp::PackMask {
         from: TRUTH_ROW,
@@ -200,7 +210,7 @@ pub(crate) fn emit_mask_registers<W: Width>(
     }
 }
 
-// Ones into the free bits of a mask, where free elements become ones.
+// Ones into the free bits of a mask, where agnostic elements become ones.
 pub(crate) fn emit_mask_fill<W: Width>(cfg: &Cfg, to: u8, buf: &mut MicroBuf)
     requires width { cfg.now.vtype.sew ≡ W.BITS }
     requires to { to < 32 }

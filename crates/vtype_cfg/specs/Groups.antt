@@ -23,7 +23,7 @@ mask_at first = record { first = first; eew = 1; emul8 = 8; fields = 1 }
 abbrev pub register_at : ℕ → ℕ → Operand
 register_at eew first = record { first = first; eew = eew; emul8 = 8; fields = 1 }
 
--- so many groups, one behind the other, of elements of so many bits
+-- so many groups, one after the other, of elements of so many bits
 abbrev pub groups_at : Vtype → ℕ → ℕ → ℕ → Operand
 groups_at vt fields eew first = record { first = first; eew = eew; emul8 = emul_of vt eew; fields = fields }
 

@@ -23,7 +23,7 @@ impl Operand {
         u32::from(self.fields) * self.group_registers()
     }
 
-    /// The number behind that of the last register.
+    /// The number after that of the last register.
     pub(crate) fn past(&self) -> u32
         ensures { result ≡ (registers (seen self.now)).past }
     {

@@ -19,7 +19,7 @@ pub(crate) struct Operand {
     pub(crate) eew: u8,
     /// EMUL, how many registers a group takes, in eighths; 8 where there is one register whatever LMUL is.
     pub(crate) emul8: u16,
-    /// How many groups there are, one behind the other: the fields of a segment.
+    /// How many groups there are, one after the other: the fields of a segment.
     pub(crate) fields: u8,
 }
 

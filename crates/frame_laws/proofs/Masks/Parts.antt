@@ -181,7 +181,7 @@ fill-here w to s pos lanes r at inside =
     let p = in_element w (32 / w) s r at pos lanes inside in
     let f = in_element w (32 / w) s free_row at pos lanes inside in
     let d = in_element w (32 / w) s to at pos lanes inside in
-    p1.bit ∙ ap (λ (z : ℕ → ℕ → Bool). z r j) (micros-element w k col (update ∷ []) s (everywhere-fits w (free_row ∷ []) (1 ∷ []) to true, tt) p.fits p.inside)
+    p1.bit ∙ ap (λ (z : ℕ → ℕ → Bool). z r j) (micros-element w k col (update ∷ []) s (everywhere-fits w (free_row ∷ []) (1 ∷ []) to, tt) p.fits p.inside)
     ∙ ⊎_elim
     (λ (x : r ≡ to). rw (x, eq-eqb to to refl) (everywhere-here w (free_row ∷ []) (1 ∷ []) to true e j p.below ∙ filled (e free_row j) (e to j)
     ∙ ap (λ (z : Bool). cond z true (e to j)) (sym f.bit) ∙ ap (λ (z : Bool). cond (bit_in s free_row at) true z) (sym d.bit)))

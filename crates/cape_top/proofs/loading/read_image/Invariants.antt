@@ -4,11 +4,11 @@ use Rattle.cape_top.proofs.loading.read_image.Given as goal
 
 abbrev pub invariant-loop-turn : goal.invariant-loop-turn
 invariant-loop-turn g l = record {
-  moved : (bytes : List ℕ) → g.F.Files.told l.fn.files (word_at (g.F.Files.names l.fn.files) l.fn.place) ≡ Present bytes → (rest : List ℕ) × (g.F.Files.left l.files ≡ Some rest) × (bytes ≡ l.image.items ++ rest);
+  moved : (bytes : List ℕ) → g.F.Files.known_file l.fn.files (word_at (g.F.Files.names l.fn.files) l.fn.place) ≡ Present bytes → (rest : List ℕ) × (g.F.Files.left l.files ≡ Some rest) × (bytes ≡ l.image.items ++ rest);
   count : l.turn ≤ vec_len l.image;
   limit : vec_len l.image ≤ 33554433;
   opened : g.F.Files.is_open l.files ≡ true;
   at : g.F.Files.at l.files ≡ l.fn.place;
   since : g.F.Files.since l.files ≡ g.F.Files.faults l.fn.files;
-  later : g.F.Files.faults l.fn.files ≤ g.F.Files.faults l.files;
+  quiet : g.F.Files.faults l.files ≡ g.F.Files.faults l.fn.files;
 }

@@ -1,20 +1,19 @@
-use Rattle.std.proofs.Common.{[], inr, map, refl}
+use Rattle.std.proofs.Common.{inr, map}
 use Rattle.elf_load.specs.Layout.{span_of}
-use Rattle.machine.proofs.Carried.{appends_none}
 use Rattle.report_texts.specs.Layouts.{layout_text}
 use Rattle.report_texts.specs.Lines.{refused_line}
 use Rattle.cape_top.specs.declared.ending.Status.TheVariants.{Done, Refused}
-use Rattle.cape_top.specs.Views.{devices, views}
+use Rattle.cape_io.specs.Views.{devices, views}
 use Rattle.cape_top.proofs.TopLemmas.{checked_if, refused_if, run_ends, run_reads, writes_err, writes_out}
 use Rattle.cape_top.proofs.top.do_command.Goals as goal
 
 pub returns-in-Err-Refused-clause-ends : goal.returns-in-Err-Refused-clause-ends
 returns-in-Err-Refused-clause-ends g c =
-    let d = devices g.S.Source g.O.Sink g.E.Sink c.args.input.now c.args.input.now c.args.out.now c.args.out.now c.args.err.now c.refuse.new.err in
     let fault = c.in-Err-Refused.fault in
     let is = rw c.in-Err-Refused.field-0-is at c.in-Err-Refused.ensures.refused in
-    writes_err _ d c.refuse.result (Refused fault) _ c.requires.none [] (refused_line fault) (refused_if c.args.command _ _ fault is) refl tt refl (appends_none _)
-    (rw c.in-Err-Refused.fault-is at c.refuse.ensures.only) (rw c.in-Err-Refused.fault-is at c.refuse.ensures.said) (rw c.in-Err-Refused.fault-is at c.refuse.ensures.front)
+    writes_err g.S.Source g.O.Sink g.E.Sink _ c.refuse.result (Refused fault) _ tt c.requires.none c.args.input.now
+    (refused_line fault) c.args.out.now c.args.err.now c.refuse.new.err (refused_if c.args.command _ _ fault is)
+    (rw c.in-Err-Refused.fault-is at c.refuse.ensures.only) (rw c.in-Err-Refused.fault-is at c.refuse.ensures.said) (rw c.in-Err-Refused.fault-is at c.refuse.ensures.fails)
 
 pub returns-in-Run-clause-ends : goal.returns-in-Run-clause-ends
 returns-in-Run-clause-ends g c =
@@ -31,7 +30,7 @@ returns-in-Run-clause-read g c = λ is.
 
 pub returns-in-Check-clause-ends : goal.returns-in-Check-clause-ends
 returns-in-Check-clause-ends g c =
-    let d = devices g.S.Source g.O.Sink g.E.Sink c.args.input.now c.args.input.now c.args.out.now c.check_loaded.new.out c.args.err.now c.args.err.now in
     let l = c.in-Ok.loaded in
-    rw (c.in-Check.is) (writes_out _ d c.check_loaded.result Done _ c.requires.none (layout_text l.entry_pc (map span_of l.regions)) [] (checked_if _ _ l c.in-Ok.ensures.loaded) refl tt refl (appends_none _)
-    c.check_loaded.ensures.only c.check_loaded.ensures.said c.check_loaded.ensures.front)
+    rw (c.in-Check.is) (writes_out g.S.Source g.O.Sink g.E.Sink _ c.check_loaded.result Done _ tt c.requires.none c.args.input.now
+    (layout_text l.entry_pc (map span_of l.regions)) c.args.out.now c.check_loaded.new.out c.args.err.now (checked_if _ _ l c.in-Ok.ensures.loaded)
+    c.check_loaded.ensures.only c.check_loaded.ensures.said c.check_loaded.ensures.fails)

@@ -1,5 +1,5 @@
 use Rattle.std.proofs.Common.{◌≡◌, ℕ, ◌+◌, ◌-◌, List, None, ◌∙◌, ap, arith}
-use Rattle.elf_load.specs.declared.spans.Span.{Span}
+use Rattle.guest_mem.specs.declared.spans.Span.{Span}
 use Rattle.elf_load.specs.Layout.{regions, heap_start, heap_end, heap_limit, heap_span}
 use Rattle.elf_load.specs.Faults.{fault}
 use Rattle.elf_load.proofs.FaultOrder.{length-no_fault, any_past_file-no_fault, entry-no_fault, all_apart-no_fault, none_wraps-no_fault, bytes_fit-no_fault, heap_start-no_fault, heap_end-no_fault, heap_end-is}

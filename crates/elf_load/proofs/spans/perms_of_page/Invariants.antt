@@ -1,5 +1,5 @@
 use Rattle.std.proofs.Common.{◌≡◌, drop, bit_or}
-use Rattle.elf_load.specs.Layout.{page_perms}
+use Rattle.guest_mem.specs.Spans.{page_perms}
 use Rattle.elf_load.proofs.spans.perms_of_page.Given as goal
 
 -- the permissions so far and those of the ranges that are left make the whole

@@ -1,11 +1,11 @@
 use Rattle.std.proofs.Common.{ℕ, ◌+◌, ◌-◌, ◌*◌, ◌<◌, ◌≤◌, [], ◌∷◌, length, sym, append-nil, arith}
 use Rattle.std.proofs.Math.Nat.{mul-le-mul_right}
-use Rattle.gen_arith.specs.Recipes.{operands, values_of}
-use Rattle.gen_arith.proofs.Lists.{ripple-none, ripple-carry, one-more}
+use Rattle.micro_ir.specs.WorkRows.{carry_row, result_row, truth_row}
+use Rattle.gen_arith.proofs.Written.{ripple-none, ripple-carry, one-more}
 use Rattle.gen_arith.proofs.steps.emit_carries.Goals as goal
 
 pub loop-bit-init : goal.loop-bit-init
-loop-bit-init g c = record { ops = rw (ripple-none g.W.Width.BITS (35 ∷ operands c.args.a c.args.b) [] (values_of c.args.carries.now c.args.a c.args.b) 35 41) (sym (append-nil _)); spare = omega arith }
+loop-bit-init g c = record { ops = rw (ripple-none g.W.Width.BITS (carry_row ∷ c.args.a ∷ c.args.b ∷ []) [] c.args.carries.now carry_row truth_row) (sym (append-nil _)); spare = omega arith }
 
 pub emit_table_at-requires-clause-room : goal.emit_table_at-requires-clause-room
 emit_table_at-requires-clause-room g c =
@@ -20,6 +20,6 @@ loop-bit-preserved g c =
     let bit : ℕ = c.loop-bit.bit in
     let below : bit + 1 < w = omega (arith, c.loop-bit-test.true, c.BITS.ensures) in
     record {
-      ops = one-more _ _ _ c.emit_table_at.ensures.ops c.loop-bit.invariant.ops (ripple-carry g.W.Width.BITS (35 ∷ operands c.args.a c.args.b) (values_of c.args.carries.now c.args.a c.args.b) 35 41 bit below);
+      ops = one-more _ _ _ c.emit_table_at.ensures.ops c.loop-bit.invariant.ops (ripple-carry g.W.Width.BITS (carry_row ∷ c.args.a ∷ c.args.b ∷ []) c.args.carries.now carry_row truth_row bit below);
       spare = omega (arith, c.emit_table_at.ensures.spare, c.loop-bit.invariant.spare);
     }

@@ -1,11 +1,11 @@
-use Rattle.std.proofs.Common.{◌≡◌, ℕ, ◌+◌, ◌-◌, ◌<◌, ◌∷◌, sym, append-nil, arith}
-use Rattle.gen_arith.specs.Recipes.{operands, values_of}
-use Rattle.gen_arith.proofs.Lists.{ripple-none, ripple-more, ripple-last, one-more, two-more}
+use Rattle.std.proofs.Common.{◌≡◌, ℕ, ◌+◌, ◌-◌, ◌<◌, [], ◌∷◌, sym, append-nil, arith}
+use Rattle.micro_ir.specs.WorkRows.{carry_row, result_row, truth_row}
+use Rattle.gen_arith.proofs.Written.{ripple-none, ripple-more, ripple-last, one-more, two-more}
 use Rattle.gen_arith.proofs.steps.emit_digits.Goals as goal
 
 pub loop-bit-init : goal.loop-bit-init
 loop-bit-init g c = record {
-  ops = rw (ripple-none g.W.Width.BITS (35 ∷ operands c.args.a c.args.b) (values_of c.args.digits.now c.args.a c.args.b) (values_of c.args.carries.now c.args.a c.args.b) 35 36) (sym (append-nil _));
+  ops = rw (ripple-none g.W.Width.BITS (carry_row ∷ c.args.a ∷ c.args.b ∷ []) c.args.digits.now c.args.carries.now carry_row result_row) (sym (append-nil _));
   spare = omega arith;
 }
 
@@ -15,7 +15,7 @@ loop-bit-preserved g c =
     let below : bit + 1 < g.W.Width.BITS = omega (arith, c.loop-bit-test.true, c.BITS.ensures) in
     record {
       ops = two-more _ _ _ _ c.emit_table_at-in-loop-bit.ensures.ops c.emit_table_at.ensures.ops c.loop-bit.invariant.ops
-          (ripple-more g.W.Width.BITS (35 ∷ operands c.args.a c.args.b) (values_of c.args.digits.now c.args.a c.args.b) (values_of c.args.carries.now c.args.a c.args.b) 35 36 bit below);
+          (ripple-more g.W.Width.BITS (carry_row ∷ c.args.a ∷ c.args.b ∷ []) c.args.digits.now c.args.carries.now carry_row result_row bit below);
       spare = omega (arith, c.emit_table_at.ensures.spare, c.emit_table_at-in-loop-bit.ensures.spare, c.loop-bit.invariant.spare, c.requires.digits, c.requires.carries);
     }
 
@@ -25,5 +25,5 @@ returns-clause-ops g c =
     let h = g.met.W.Width.least in
     let last : bit ≡ c.BITS.result - 1 = omega arith in
     let is : g.W.Width.BITS ≡ bit + 1 = omega (arith, last, c.BITS.ensures) in
-    let top = ripple-last g.W.Width.BITS (35 ∷ operands c.args.a c.args.b) (values_of c.args.digits.now c.args.a c.args.b) (values_of c.args.carries.now c.args.a c.args.b) 35 36 bit is in
+    let top = ripple-last g.W.Width.BITS (carry_row ∷ c.args.a ∷ c.args.b ∷ []) c.args.digits.now c.args.carries.now carry_row result_row bit is in
     one-more _ _ _ (rw (← last) at c.emit_table_at-2.ensures.ops) c.loop-bit.invariant.ops top

@@ -1,12 +1,20 @@
 use Rattle.std.proofs.Common.{◌<◌, [], refl, sym, ◌∙◌, eqb-true, arith}
 use Rattle.rvv_meaning.specs.Calls.{asked_by, put_by, answer_of, memory_after}
 use Rattle.guest_env.proofs.Taking.{takes-none}
-use Rattle.guest_env.proofs.Answering.{quiet-out, quiet-err, read-number, write-number}
+use Rattle.guest_env.proofs.Answering.{asked_by-other, unwritten-out, unwritten-err, read-number, write-number}
 use Rattle.guest_env.proofs.calls.answer.Goals as goal
 
 pub returns-in-Ok-clause-answered : goal.returns-in-Ok-clause-answered
 unfolding asked_by answer_of memory_after
-returns-in-Ok-clause-answered g c = rw (c.in-Read.is, ← c.get-first.ensures.value, ← c.get-second.ensures.value, ← c.get-third.ensures.value) c.in-Ok.ensures.answered
+returns-in-Ok-clause-answered g c =
+    let read = c.in-Ok.ensures.answered in
+    record {
+      taken = read.taken;
+      took = rw (c.in-Read.is, ← c.get-first.ensures.value, ← c.get-second.ensures.value, ← c.get-third.ensures.value) read.took;
+      quiet = c.in-Ok.ensures.quiet;
+      answers = rw (c.in-Read.is, ← c.get-first.ensures.value, ← c.get-second.ensures.value, ← c.get-third.ensures.value) read.answers;
+      memory = rw (c.in-Read.is, ← c.get-second.ensures.value) read.stored;
+    }
 
 pub returns-in-Ok-clause-input_stays : goal.returns-in-Ok-clause-input_stays
 unfolding asked_by
@@ -34,39 +42,29 @@ returns-in-Err-clause-read_fault g c = λ is.
 
 pub returns-in-Ok-write-clause-answered : goal.returns-in-Ok-write-clause-answered
 unfolding asked_by answer_of memory_after
-returns-in-Ok-write-clause-answered g c = rw (c.in-Write.is, ← c.get-first.ensures.value, ← c.get-second.ensures.value, ← c.get-third.ensures.value) ([], takes-none _, c.in-Ok-write.ensures.answer, refl)
+returns-in-Ok-write-clause-answered g c = record {
+  taken = [];
+  took = rw c.in-Write.is (takes-none _);
+  quiet = refl;
+  answers = rw (c.in-Write.is, ← c.get-first.ensures.value, ← c.get-second.ensures.value, ← c.get-third.ensures.value) c.in-Ok-write.ensures.answer;
+  memory = rw c.in-Write.is refl;
+}
 
-pub returns-in-Ok-write-clause-gained_out : goal.returns-in-Ok-write-clause-gained_out
+pub returns-in-Ok-write-clause-to_out : goal.returns-in-Ok-write-clause-to_out
 unfolding put_by
-returns-in-Ok-write-clause-gained_out g c = rw (c.in-Write.is, ← c.get-first.ensures.value, ← c.get-second.ensures.value, ← c.get-third.ensures.value) c.in-Ok-write.ensures.gained_out
+returns-in-Ok-write-clause-to_out g c = rw (c.in-Write.is, ← c.get-first.ensures.value, ← c.get-second.ensures.value, ← c.get-third.ensures.value) c.in-Ok-write.ensures.to_out
 
-pub returns-in-Ok-write-clause-gained_err : goal.returns-in-Ok-write-clause-gained_err
+pub returns-in-Ok-write-clause-to_err : goal.returns-in-Ok-write-clause-to_err
 unfolding put_by
-returns-in-Ok-write-clause-gained_err g c = rw (c.in-Write.is, ← c.get-first.ensures.value, ← c.get-second.ensures.value, ← c.get-third.ensures.value) c.in-Ok-write.ensures.gained_err
+returns-in-Ok-write-clause-to_err g c = rw (c.in-Write.is, ← c.get-first.ensures.value, ← c.get-second.ensures.value, ← c.get-third.ensures.value) c.in-Ok-write.ensures.to_err
 
-pub returns-in-Err-write-clause-front_out : goal.returns-in-Err-write-clause-front_out
+pub returns-in-Err-write-clause-to_out : goal.returns-in-Err-write-clause-to_out
 unfolding put_by
-returns-in-Err-write-clause-front_out g c = rw (c.in-Write.is, ← c.get-first.ensures.value, ← c.get-second.ensures.value, ← c.get-third.ensures.value) c.in-Err-write.ensures.front_out
+returns-in-Err-write-clause-to_out g c = rw (c.in-Write.is, ← c.get-first.ensures.value, ← c.get-second.ensures.value, ← c.get-third.ensures.value) c.in-Err-write.ensures.to_out
 
-pub returns-in-Err-write-clause-front_err : goal.returns-in-Err-write-clause-front_err
+pub returns-in-Err-write-clause-to_err : goal.returns-in-Err-write-clause-to_err
 unfolding put_by
-returns-in-Err-write-clause-front_err g c = rw (c.in-Write.is, ← c.get-first.ensures.value, ← c.get-second.ensures.value, ← c.get-third.ensures.value) c.in-Err-write.ensures.front_err
-
-pub returns-in-Ok-write-clause-out_stays : goal.returns-in-Ok-write-clause-out_stays
-unfolding put_by
-returns-in-Ok-write-clause-out_stays g c = rw (c.in-Write.is, ← c.get-first.ensures.value, ← c.get-second.ensures.value, ← c.get-third.ensures.value) c.write.ensures.out_stays
-
-pub returns-in-Ok-write-clause-err_stays : goal.returns-in-Ok-write-clause-err_stays
-unfolding put_by
-returns-in-Ok-write-clause-err_stays g c = rw (c.in-Write.is, ← c.get-first.ensures.value, ← c.get-second.ensures.value, ← c.get-third.ensures.value) c.write.ensures.err_stays
-
-pub returns-in-Err-write-clause-out_stays : goal.returns-in-Err-write-clause-out_stays
-unfolding put_by
-returns-in-Err-write-clause-out_stays g c = rw (c.in-Write.is, ← c.get-first.ensures.value, ← c.get-second.ensures.value, ← c.get-third.ensures.value) c.write.ensures.out_stays
-
-pub returns-in-Err-write-clause-err_stays : goal.returns-in-Err-write-clause-err_stays
-unfolding put_by
-returns-in-Err-write-clause-err_stays g c = rw (c.in-Write.is, ← c.get-first.ensures.value, ← c.get-second.ensures.value, ← c.get-third.ensures.value) c.write.ensures.err_stays
+returns-in-Err-write-clause-to_err g c = rw (c.in-Write.is, ← c.get-first.ensures.value, ← c.get-second.ensures.value, ← c.get-third.ensures.value) c.in-Err-write.ensures.to_err
 
 pub returns-in-Err-write-clause-write_fault : goal.returns-in-Err-write-clause-write_fault
 returns-in-Err-write-clause-write_fault g c = λ is.
@@ -77,62 +75,33 @@ returns-in-Err-write-clause-write_fault g c = λ is.
         some = rw (← c.get-third.ensures.value) c.in-Err-write.ensures.some;
         inside = rw (← c.get-second.ensures.value, ← c.get-third.ensures.value) c.in-Err-write.ensures.inside;
       };
-      rose = rw (← c.get-first.ensures.value) c.in-Err-write.ensures.cause;
+      rose = rw (← c.get-first.ensures.value) c.in-Err-write.ensures.rose;
       stays = refl;
     }
 
-pub returns-in-Exit-clause-answered : goal.returns-in-Exit-clause-answered
-unfolding asked_by answer_of memory_after
-returns-in-Exit-clause-answered g c = rw c.in-Exit.is ([], takes-none _, c.get-first.ensures.value, refl)
+pub returns-in-Ok-clause-to_out : goal.returns-in-Ok-clause-to_out
+returns-in-Ok-clause-to_out g c = let here = c.in-Read.is in unwritten-out c.args.call c.args.regs.now c.args.mem.now c.args.merged (λ write. cc) _ _ _ _
 
-pub returns-in-Break-clause-answered : goal.returns-in-Break-clause-answered
-unfolding asked_by answer_of memory_after
-returns-in-Break-clause-answered g c = rw (c.in-Break.is, ← c.get-first.ensures.value) ([], takes-none _, c.move_break.ensures.answer, c.move_break.ensures.moved)
+pub returns-in-Ok-clause-to_err : goal.returns-in-Ok-clause-to_err
+returns-in-Ok-clause-to_err g c = let here = c.in-Read.is in unwritten-err c.args.call c.args.regs.now c.args.mem.now c.args.merged (λ write. cc) _ _ _ _
 
-pub returns-in-Close-clause-answered : goal.returns-in-Close-clause-answered
-unfolding asked_by answer_of memory_after
-returns-in-Close-clause-answered g c = rw (c.in-Close.is, ← c.get-first.ensures.value) ([], takes-none _, c.close.ensures, refl)
+pub returns-in-Err-clause-to_out : goal.returns-in-Err-clause-to_out
+returns-in-Err-clause-to_out g c = let here = c.in-Read.is in unwritten-out c.args.call c.args.regs.now c.args.mem.now c.args.merged (λ write. cc) _ _ _ _
 
-pub returns-in-Seek-clause-answered : goal.returns-in-Seek-clause-answered
-unfolding asked_by answer_of memory_after
-returns-in-Seek-clause-answered g c = rw (c.in-Seek.is, ← c.get-first.ensures.value) ([], takes-none _, c.seek.ensures, refl)
+pub returns-in-Err-clause-to_err : goal.returns-in-Err-clause-to_err
+returns-in-Err-clause-to_err g c = let here = c.in-Read.is in unwritten-err c.args.call c.args.regs.now c.args.mem.now c.args.merged (λ write. cc) _ _ _ _
 
-pub returns-in-Unknown-clause-answered : goal.returns-in-Unknown-clause-answered
-unfolding asked_by answer_of memory_after
-returns-in-Unknown-clause-answered g c = rw c.in-Unknown.is ([], takes-none _, refl, refl)
+pub returns-in_default-clause-answered : goal.returns-in_default-clause-answered
+returns-in_default-clause-answered g c = record {
+  taken = [];
+  took = rw (asked_by-other c.args.call c.args.regs.now c.args.mem.now c.in_default.not-Read) (takes-none _);
+  quiet = refl;
+  answers = c.answer_alone.ensures.answer;
+  memory = c.answer_alone.ensures.memory;
+}
 
-pub returns-in-Ok-clause-gained_out : goal.returns-in-Ok-clause-gained_out
-returns-in-Ok-clause-gained_out g c = let here = c.in-Read.is in quiet-out c.args.call c.args.regs.now c.args.mem.now c.args.merged _ (λ write. cc)
+pub returns-in_default-clause-to_out : goal.returns-in_default-clause-to_out
+returns-in_default-clause-to_out g c = unwritten-out c.args.call c.args.regs.now c.args.mem.now c.args.merged c.in_default.not-Write _ _ _ _
 
-pub returns-in-Ok-clause-gained_err : goal.returns-in-Ok-clause-gained_err
-returns-in-Ok-clause-gained_err g c = let here = c.in-Read.is in quiet-err c.args.call c.args.regs.now c.args.mem.now c.args.merged _ (λ write. cc)
-
-pub returns-in-Exit-clause-gained_out : goal.returns-in-Exit-clause-gained_out
-returns-in-Exit-clause-gained_out g c = let here = c.in-Exit.is in quiet-out c.args.call c.args.regs.now c.args.mem.now c.args.merged _ (λ write. cc)
-
-pub returns-in-Exit-clause-gained_err : goal.returns-in-Exit-clause-gained_err
-returns-in-Exit-clause-gained_err g c = let here = c.in-Exit.is in quiet-err c.args.call c.args.regs.now c.args.mem.now c.args.merged _ (λ write. cc)
-
-pub returns-in-Break-clause-gained_out : goal.returns-in-Break-clause-gained_out
-returns-in-Break-clause-gained_out g c = let here = c.in-Break.is in quiet-out c.args.call c.args.regs.now c.args.mem.now c.args.merged _ (λ write. cc)
-
-pub returns-in-Break-clause-gained_err : goal.returns-in-Break-clause-gained_err
-returns-in-Break-clause-gained_err g c = let here = c.in-Break.is in quiet-err c.args.call c.args.regs.now c.args.mem.now c.args.merged _ (λ write. cc)
-
-pub returns-in-Close-clause-gained_out : goal.returns-in-Close-clause-gained_out
-returns-in-Close-clause-gained_out g c = let here = c.in-Close.is in quiet-out c.args.call c.args.regs.now c.args.mem.now c.args.merged _ (λ write. cc)
-
-pub returns-in-Close-clause-gained_err : goal.returns-in-Close-clause-gained_err
-returns-in-Close-clause-gained_err g c = let here = c.in-Close.is in quiet-err c.args.call c.args.regs.now c.args.mem.now c.args.merged _ (λ write. cc)
-
-pub returns-in-Seek-clause-gained_out : goal.returns-in-Seek-clause-gained_out
-returns-in-Seek-clause-gained_out g c = let here = c.in-Seek.is in quiet-out c.args.call c.args.regs.now c.args.mem.now c.args.merged _ (λ write. cc)
-
-pub returns-in-Seek-clause-gained_err : goal.returns-in-Seek-clause-gained_err
-returns-in-Seek-clause-gained_err g c = let here = c.in-Seek.is in quiet-err c.args.call c.args.regs.now c.args.mem.now c.args.merged _ (λ write. cc)
-
-pub returns-in-Unknown-clause-gained_out : goal.returns-in-Unknown-clause-gained_out
-returns-in-Unknown-clause-gained_out g c = let here = c.in-Unknown.is in quiet-out c.args.call c.args.regs.now c.args.mem.now c.args.merged _ (λ write. cc)
-
-pub returns-in-Unknown-clause-gained_err : goal.returns-in-Unknown-clause-gained_err
-returns-in-Unknown-clause-gained_err g c = let here = c.in-Unknown.is in quiet-err c.args.call c.args.regs.now c.args.mem.now c.args.merged _ (λ write. cc)
+pub returns-in_default-clause-to_err : goal.returns-in_default-clause-to_err
+returns-in_default-clause-to_err g c = unwritten-err c.args.call c.args.regs.now c.args.mem.now c.args.merged c.in_default.not-Write _ _ _ _

@@ -10,7 +10,7 @@ loop-left-init g c = record {
   at = omega arith;
   inside = omega arith;
   stays = λ empty. refl;
-  later = omega arith;
+  quiet = refl;
 }
 
 pub loop-left-preserved : goal.loop-left-preserved
@@ -28,7 +28,7 @@ loop-left-preserved g c =
       at = omega (arith, c.in_ok-taken.ensures.bound);
       inside = omega arith;
       stays = λ empty. absurd (omega arith);
-      later = omega arith;
+      quiet = c.in_ok-taken.ensures.quiet ∙ c.loop-left.invariant.quiet;
     }
 
 pub returns-clause-filled : goal.returns-clause-filled

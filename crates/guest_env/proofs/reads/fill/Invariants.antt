@@ -9,7 +9,7 @@ invariant-loop-left g l = record {
   at : l.at ≡ (l.fn.address + (l.fn.count - l.left)) % 2 ^ 32;
   inside : l.left ≤ l.fn.count;
   stays : l.fn.count ≡ 0 → l.input ≡ l.initial.input;
-  later : g.S.Source.faults l.initial.input ≤ g.S.Source.faults l.input;
+  quiet : g.S.Source.faults l.input ≡ g.S.Source.faults l.initial.input;
 }
 
 abbrev pub decreases-loop-left : goal.decreases-loop-left

@@ -1,17 +1,23 @@
-use Rattle.std.proofs.Common.{◌≡◌, ◌<◌, ◌*◌, ◌&&◌, true, refl, sym, ◌∙◌, arith}
-use Rattle.reduce_tree.specs.Tags.{places, is_tagged, is_selected}
-use Rattle.reduce_tree.proofs.Counting.{count_some, count_none}
+use Rattle.std.proofs.Common.{◌≡◌, ℕ, ◌<◌, ◌&&◌, Bool, true, refl, sym, ◌∙◌, arith}
+use Rattle.std.proofs.lemmas.Bool.{ltb-true, lt-ltb, and_parts}
+use Rattle.std.specs.List.{count_by, range_with_len}
+use Rattle.reduce_tree.specs.Tags.{places, is_tagged, is_selected, tags_in}
+use Rattle.reduce_tree.proofs.Counting.{count_some, some_counted}
 use Rattle.reduce_tree.proofs.tags.any.Goals as goal
 
-pub returns-then-is_counted-clause-counted : goal.returns-then-is_counted-clause-counted
-returns-then-is_counted-clause-counted g c =
+pub returns-clause-tag : goal.returns-clause-tag
+returns-clause-tag g c =
     let s = g.P.Planes.slices c.args.p.now in
-    let inside : c.loop-place.place < 32 * s.columns = omega (arith, c.columns-place-end.ensures.value) in
-    let set : (is_selected c.args.subs c.loop-place.place && is_tagged s c.loop-place.place) ≡ true = sym c.is_counted.ensures ∙ c.if-is_counted.true in
-    (λ t. count_some (λ n. is_selected c.args.subs n && is_tagged s n) (places s) c.loop-place.place inside set, λ l. refl)
+    let p = λ (n : ℕ). is_selected c.args.subs n && is_tagged s n in (
+      λ t.
+          let l : 0 < tags_in c.args.subs s = rw (← c.count.ensures.value) (ltb-true 0 c.count.result t) in
+          let k = some_counted p (places s) l in
+          let b = and_parts (is_selected c.args.subs k.0) (is_tagged s k.0) k.2 in (k.0, k.1, b.0, b.1),
+      λ h. lt-ltb 0 c.count.result (rw c.count.ensures.value (count_some p (places s) h.0 h.1 (rw (h.2, h.3) refl))),
+    )
 
 pub returns-clause-counted : goal.returns-clause-counted
-returns-clause-counted g c =
-    let s = g.P.Planes.slices c.args.p.now in
-    let none = count_none (λ n. is_selected c.args.subs n && is_tagged s n) (places s) (λ k l. c.loop-place.invariant k (omega (arith, c.columns-place-end.ensures.value))) in
-    (λ t. cc, λ l. absurd (omega (arith, none)))
+returns-clause-counted g c = (
+  λ t. rw (← c.count.ensures.value) (ltb-true 0 c.count.result t),
+  λ l. lt-ltb 0 c.count.result (rw c.count.ensures.value l),
+)

@@ -1,5 +1,5 @@
-use Rattle.reduce_tree.specs.Tags.{NoTagBelow}
+use Rattle.reduce_tree.proofs.FirstTags.{IsLeast}
 use Rattle.reduce_tree.proofs.tags.first.Given as goal
 
-abbrev pub invariant-loop-place : goal.invariant-loop-place
-invariant-loop-place g l = NoTagBelow l.place (g.P.Planes.slices l.p)
+abbrev pub invariant-loop-sub : goal.invariant-loop-sub
+invariant-loop-sub g l = IsLeast l.sub l.least (g.P.Planes.slices l.p)

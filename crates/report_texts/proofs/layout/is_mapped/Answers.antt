@@ -2,7 +2,7 @@ use Rattle.std.proofs.Common.{rules, ◌∙◌, sym, tests}
 use Rattle.std.proofs.lemmas.Iterator.{YieldsList-from_slice}
 use Rattle.std.proofs.lemmas.Iterator.Search.{any_from_yields_List}
 use Rattle.guest_mem.specs.declared.regions.Region.{Region}
-use Rattle.elf_load.specs.Layout.{span_of, meets}
+use Rattle.guest_mem.specs.Spans.{span_of, meets}
 use Rattle.report_texts.proofs.LayoutLemmas.{list_any-map}
 use Rattle.report_texts.proofs.layout.is_mapped.Goals as goal
 

@@ -1,6 +1,6 @@
 use Rattle.std.proofs.Common.{◌<◌, ◌≤◌, take}
 use Rattle.std.specs.List.{All}
-use Rattle.elf_load.specs.Layout.{span_of, page_numbers}
+use Rattle.guest_mem.specs.Spans.{span_of, page_numbers}
 use Rattle.report_texts.specs.Layouts.{IsSteady}
 use Rattle.report_texts.proofs.layout.next_edge.Given as goal
 

@@ -1,5 +1,5 @@
 use Rattle.std.proofs.Common.{◌<◌, ◌≤◌, ◌-◌, map}
-use Rattle.elf_load.specs.Layout.{span_of, page_numbers}
+use Rattle.guest_mem.specs.Spans.{span_of, page_numbers}
 use Rattle.report_texts.specs.Layouts.{IsRun}
 use Rattle.report_texts.proofs.layout.run_end.Given as goal
 

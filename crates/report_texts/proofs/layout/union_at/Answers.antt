@@ -7,8 +7,8 @@ pub loop-region-preserved : goal.loop-region-preserved
 loop-region-preserved c =
     let more = page_perms_more c.args.regions.now c.loop-region.region-index c.region-item.result c.args.page (omega arith) c.region-item.is in
     elim c.if-meets.branch [
-      | then-meets w ↦ rw (w.perms-is, w.insert.ensures tt) (union_taken c.loop-region.perms.0 _ c.region-item.result.perms.0 _ _ _ more c.loop-region.invariant (sym c.meets.ensures ∙ w.if-meets.true))
-      | else-meets w ↦ rw w.perms-is (union_passed c.loop-region.perms.0 _ c.region-item.result.perms.0 _ _ _ more c.loop-region.invariant (sym c.meets.ensures ∙ w.if-meets.false))
+      | then-meets w ↦ rw (w.perms-is, w.insert.ensures tt) (union_taken c.loop-region.perms.0 _ c.region-item.result.perms.0 _ _ _ more c.loop-region.invariant (sym (rw c.span.ensures at c.meets.ensures) ∙ w.if-meets.true))
+      | else-meets w ↦ rw w.perms-is (union_passed c.loop-region.perms.0 _ c.region-item.result.perms.0 _ _ _ more c.loop-region.invariant (sym (rw c.span.ensures at c.meets.ensures) ∙ w.if-meets.false))
     ]
 
 pub returns : goal.returns

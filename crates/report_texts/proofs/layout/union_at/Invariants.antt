@@ -1,5 +1,5 @@
 use Rattle.std.proofs.Common.{◌≡◌, map, drop, bit_or}
-use Rattle.elf_load.specs.Layout.{span_of, page_perms}
+use Rattle.guest_mem.specs.Spans.{span_of, page_perms}
 use Rattle.report_texts.proofs.layout.union_at.Given as goal
 
 -- with those of the regions that are left, it is the union

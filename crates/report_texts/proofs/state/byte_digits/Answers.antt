@@ -1,6 +1,6 @@
 use Rattle.std.proofs.Common.{arith, refl}
 use Rattle.report_texts.specs.StateTexts.{vector_byte}
-use Rattle.report_texts.proofs.PutLemmas.{pieces_last}
+use Rattle.report_texts.proofs.PieceLemmas.{pieces_last}
 use Rattle.report_texts.proofs.state.byte_digits.Goals as goal
 
 pub loop-j-preserved : goal.loop-j-preserved

@@ -1,11 +1,10 @@
-use Rattle.std.proofs.Common.{cond, ◌-◌, ◌∙◌, ap}
-use Rattle.steer_net.specs.Network.{is_packed, top_bit}
-use Rattle.steer_net.proofs.Packed.{by_packed}
+use Rattle.std.proofs.Common.{not, ◌&&◌, eqb, sym, ◌∙◌}
+use Rattle.std.proofs.lemmas.Bool.{and_parts}
+use Rattle.steer_net.proofs.SubarrayRows.{apart}
 use Rattle.steer_net.proofs.packing.pack_mask.Goals as goal
 
-pub returns-clause-slices : goal.returns-clause-slices
-returns-clause-slices g c =
-    let s = g.P.Planes.slices c.args.p.now in
-    c.write_words.ensures.slices
-    ∙ by_packed c.args.from c.args.under c.args.to c.args.width c.args.first c.pack_words.new.words s
-    (λ i l. c.pack_words.ensures i ∙ ap (λ b. cond (is_packed c.args.under c.args.width c.args.first s i) (top_bit c.args.width s c.args.from (i - c.args.first)) b) (c.read_row.ensures i l))
+pub pack_subarrays-requires-clause-apart_from : goal.pack_subarrays-requires-clause-apart_from
+pack_subarrays-requires-clause-apart_from g c = apart c.args.to c.args.from (and_parts (not (eqb c.args.to c.args.from)) (not (eqb c.args.to c.args.under)) (sym c.is_apart.ensures ∙ c.if-is_apart.true)).0
+
+pub pack_subarrays-requires-clause-apart_under : goal.pack_subarrays-requires-clause-apart_under
+pack_subarrays-requires-clause-apart_under g c = apart c.args.to c.args.under (and_parts (not (eqb c.args.to c.args.from)) (not (eqb c.args.to c.args.under)) (sym c.is_apart.ensures ∙ c.if-is_apart.true)).1

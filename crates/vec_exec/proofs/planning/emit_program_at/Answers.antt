@@ -37,7 +37,7 @@ emit_mask_registers-requires-clause-room g c =
     let fit = fitted c.args.i.now.op c.args.recipe c.requires.recipe in
     let is : makes_bits c.args.recipe.masked ≡ true = sym c.makes_bits.ensures ∙ c.if-makes_bits.true in
     let narrow : c.args.cfg.now.vtype.sew ≤ 32 = rw c.requires.width (width-most g.W.Width.BITS g.met.W.Width.divides) in
-    let all = mask-registers-few c.args.recipe c.args.i.now c.args.cfg.now c.registers-count.result narrow (rw c.registers-count.ensures (mask-plans c.args.recipe fit.operation c.args.i.now c.args.cfg.now c.args.scalar fit.fits c.requires.valid c.requires.legal is).few) in
+    let all = mask-registers-few c.args.recipe c.args.i.now c.args.cfg.now c.registers-count.result c.list_length_law.ensures narrow (rw c.registers-count.ensures (mask-plans c.args.recipe fit.operation c.args.i.now c.args.cfg.now c.args.scalar fit.fits c.requires.valid c.requires.legal is).few) in
     omega (arith, all, flag-few (has_scalar c.args.i.now.form) 4, flag-few (is_ones c.args.cfg.now.policy) 1, c.emit_scalar.ensures.spare, c.requires.room)
 
 pub emit_mask_fill-requires-clause-room : goal.emit_mask_fill-requires-clause-room
@@ -45,7 +45,7 @@ emit_mask_fill-requires-clause-room g c =
     let fit = fitted c.args.i.now.op c.args.recipe c.requires.recipe in
     let is : makes_bits c.args.recipe.masked ≡ true = sym c.makes_bits.ensures ∙ c.if-makes_bits.true in
     let narrow : c.args.cfg.now.vtype.sew ≤ 32 = rw c.requires.width (width-most g.W.Width.BITS g.met.W.Width.divides) in
-    let all = mask-registers-few c.args.recipe c.args.i.now c.args.cfg.now c.registers-count.result narrow (rw c.registers-count.ensures (mask-plans c.args.recipe fit.operation c.args.i.now c.args.cfg.now c.args.scalar fit.fits c.requires.valid c.requires.legal is).few) in
+    let all = mask-registers-few c.args.recipe c.args.i.now c.args.cfg.now c.registers-count.result c.list_length_law.ensures narrow (rw c.registers-count.ensures (mask-plans c.args.recipe fit.operation c.args.i.now c.args.cfg.now c.args.scalar fit.fits c.requires.valid c.requires.legal is).few) in
     let four = flag-few (has_scalar c.args.i.now.form) 4 in
     let one = flag-few (is_ones c.args.cfg.now.policy) 1 in
     let two = flag-few (is_ones c.args.cfg.now.policy) 2 in
@@ -112,7 +112,7 @@ emit_registers-requires-clause-room g c =
     let fit = fitted c.args.i.now.op c.args.recipe c.requires.recipe in
     let is : makes_bits c.args.recipe.masked ≡ false = sym c.makes_bits.ensures ∙ c.if-makes_bits.false in
     let narrow : c.args.cfg.now.vtype.sew ≤ 32 = rw c.requires.width (width-most g.W.Width.BITS g.met.W.Width.divides) in
-    let all = registers-few c.args.recipe c.args.i.now c.args.cfg.now c.registers-count.result narrow (rw c.registers-count.ensures (plans c.args.recipe fit.operation c.args.i.now c.args.cfg.now c.args.scalar fit.fits c.requires.valid c.requires.legal is).few) in
+    let all = registers-few c.args.recipe c.args.i.now c.args.cfg.now c.registers-count.result c.list_length_law.ensures narrow (rw c.registers-count.ensures (plans c.args.recipe fit.operation c.args.i.now c.args.cfg.now c.args.scalar fit.fits c.requires.valid c.requires.legal is).few) in
     omega (arith, all, flag-few (has_scalar c.args.i.now.form) 4, c.emit_scalar.ensures.spare, c.requires.room)
 
 pub returns-else-makes_bits-clause-program : goal.returns-else-makes_bits-clause-program

@@ -1,5 +1,5 @@
 use Rattle.std.proofs.Common.{◌≡◌, ◌∙◌, ◌+◌, ◌-◌, suc, sym, arith}
-use Rattle.guest_mem.proofs.Opening.{granted-none, granted-more}
+use Rattle.guest_mem.proofs.Laying.{granted-none, granted-more}
 use Rattle.guest_mem.proofs.page_list.PageList.grant_each.Goals as goal
 
 pub loop-more-preserved : goal.loop-more-preserved

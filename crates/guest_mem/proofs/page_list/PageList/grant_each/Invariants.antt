@@ -1,5 +1,5 @@
 use Rattle.std.proofs.Common.{◌≡◌, ◌+◌, ◌-◌}
-use Rattle.guest_mem.specs.Pages.{granted}
+use Rattle.guest_mem.specs.Laying.{granted}
 use Rattle.guest_mem.proofs.page_list.PageList.grant_each.Given as goal
 
 abbrev pub invariant-loop-more : goal.invariant-loop-more

@@ -1,6 +1,7 @@
-use Rattle.std.proofs.Common.{◌≡◌, drop}
-use Rattle.guest_mem.specs.Opening.{opened, laid_all}
+use Rattle.std.proofs.Common.{◌≡◌, take}
+use Rattle.guest_mem.specs.Opening.{opened}
 use Rattle.guest_mem.proofs.page_list.PageList.of_regions.Given as goal
 
+-- the memory of the regions so far
 abbrev pub invariant-loop-region : goal.invariant-loop-region
-invariant-loop-region l = opened l.regions ≡ laid_all l.pages (drop l.region-index l.regions)
+invariant-loop-region l = l.pages ≡ opened (take l.region-index l.regions)

@@ -1,11 +1,13 @@
-use Rattle.std.proofs.Common.{◌∙◌}
+use Rattle.std.proofs.Common.{◌∙◌, ap, length, arith}
 use Rattle.guest_mem.proofs.Loads.{from_le_bytes-range_bytes}
-use Rattle.guest_mem.proofs.InPage.{range_in_page}
+use Rattle.guest_mem.proofs.Ranges.{length-range_bytes}
 use Rattle.guest_mem.proofs.pages.Mem.read_in_page.Goals as goal
+
+pub little_endian-requires : goal.little_endian-requires
+little_endian-requires c =
+    let count = ap length c.in_ok-bytes.ensures.bytes ∙ length-range_bytes c.args.self.now.pages c.args.address c.args.len in
+    omega (arith, count)
 
 pub returns-clause-value : goal.returns-clause-value
 returns-clause-value c =
-    let pages = c.args.self.now.pages in
-    let there = rw c.in_ok-page.was at c.page.ensures in
-    let bytes = range_in_page pages c.args.address c.args.len c.in_ok-page.page.now c.place.result c.range.result.now c.ranges.address.fits c.place.ensures c.requires.inside there c.range.ensures.bytes c.range.ensures.all in
-    c.little_endian.ensures ∙ rw bytes (from_le_bytes-range_bytes pages c.args.address c.args.len c.requires.few)
+    c.little_endian.ensures ∙ rw c.in_ok-bytes.ensures.bytes (from_le_bytes-range_bytes c.args.self.now.pages c.args.address c.args.len c.requires.few)

@@ -9,7 +9,7 @@ returns c =
     c.retire_to.ensures
     ∙ rw (
       configured-is c.args.i.now c.args.self.now.core c.args.op c.requires.named,
-      c.behind.ensures,
+      c.next_pc.ensures,
       c.set.ensures,
       c.bits-self-inside.ensures.value,
       c.set_vl-vl.ensures.configured,

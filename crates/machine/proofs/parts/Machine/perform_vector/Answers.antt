@@ -7,8 +7,8 @@ use Rattle.machine.proofs.Configurations.{elements-built, vector-retires, vector
 use Rattle.machine.proofs.parts.Machine.perform_vector.Goals as goal
 
 pub returns-in-Config-clause-carries : goal.returns-in-Config-clause-carries
-returns-in-Config-clause-carries c = λ merged left out err.
-    carries-configuration merged c.args.self.now c.configure.new.self left out err c.in-Config.op c.args.i.now c.requires.there c.in-Config.is
+returns-in-Config-clause-carries c = λ v.
+    carries-configuration c.args.self.now c.configure.new.self v c.in-Config.op c.args.i.now c.requires.there c.in-Config.is
     (emptied c.args.self.now c.configure.new.self _ c.requires.empty c.configure.ensures)
 
 pub returns-in-Config-clause-count : goal.returns-in-Config-clause-count
@@ -24,8 +24,8 @@ returns-in-Opi c =
     let on : is_on_elements c.args.i.now.op ≡ true = elements-built c.args.i.now.op c.requires.fits.built c.in-Opi.is in
     let retired = ap (λ (k : Core). k.csrs.retired) c.run_program.ensures.core ∙ vector-retires c.args.i.now c.args.self.now.core in
     record {
-      carries = λ merged left out err.
-          carries-program merged c.args.self.now c.run_program.new.self left out err c.args.i.now c.requires.there on c.run_program.ensures.core c.run_program.ensures.slices c.run_program.ensures.last c.run_program.ensures.control c.run_program.ensures.live;
+      carries = λ v.
+          carries-program c.args.self.now c.run_program.new.self v c.args.i.now c.requires.there on c.run_program.ensures.core c.run_program.ensures.slices c.run_program.ensures.last c.run_program.ensures.counts c.run_program.ensures.control c.run_program.ensures.live;
       count = omega (arith, retired);
       length = ap (λ (k : Core). k.csrs.vlen) c.run_program.ensures.core ∙ vector-length c.args.i.now c.args.self.now.core;
     }

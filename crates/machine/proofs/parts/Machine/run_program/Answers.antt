@@ -3,7 +3,7 @@ use Rattle.cam_chain.specs.Views.{registers_of}
 use Rattle.micro_ir.specs.declared.control.Control.{Control}
 use Rattle.rvv_meaning.specs.Vectors.{elements_effect}
 use Rattle.machine.proofs.Configurations.{on-elements-is, operation-of}
-use Rattle.machine.proofs.Engine.{replayed-slices, replayed-control, elements-registers, elements-clip}
+use Rattle.machine.proofs.Engine.{replayed-slices, replayed-counts, replayed-control, elements-registers, elements-clip}
 use Rattle.machine.proofs.parts.Machine.run_program.Goals as goal
 
 pub returns-clause-core : goal.returns-clause-core
@@ -25,6 +25,11 @@ returns-clause-core c =
 pub returns-clause-slices : goal.returns-clause-slices
 returns-clause-slices c =
     replayed-slices c.self.inside.chain c.replay.new.chain c.replay.new.ctl c.plan.new.buf.ops c.ops.result.now c.ops.ensures.value c.replay.ensures.slices
+    ∙ rw (c.plan.ensures.program, c.scalar_of-scalar.ensures, c.cfg-cfg.ensures.is, ← c.self.view_is) refl
+
+pub returns-clause-counts : goal.returns-clause-counts
+returns-clause-counts c =
+    replayed-counts c.self.inside.chain.counts c.replay.new.chain.counts c.plan.new.buf.ops c.ops.result.now c.ops.ensures.value c.replay.ensures.counted
     ∙ rw (c.plan.ensures.program, c.scalar_of-scalar.ensures, c.cfg-cfg.ensures.is, ← c.self.view_is) refl
 
 pub returns-clause-control : goal.returns-clause-control

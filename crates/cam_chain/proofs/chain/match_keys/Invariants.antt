@@ -1,9 +1,0 @@
-use Rattle.std.proofs.Common.{◌≡◌, ℕ, ◌<◌, false, length, get_or, take}
-use Rattle.cam_chain.specs.Slices.{matches}
-use Rattle.cam_chain.specs.ChainValue.{row_bit}
-use Rattle.cam_chain.proofs.chain.match_keys.Given as goal
-
-abbrev pub invariant-loop-key : goal.invariant-loop-key
-invariant-loop-key l =
-    (length l.into ≡ length l.fn.into)
-    × ((c : ℕ) → c < length l.into → get_or l.into c false ≡ matches (λ row. row_bit l.fn.rows l.fn.base row c) (take l.key-index l.key-items))

@@ -1,5 +1,0 @@
-use Rattle.cam_chain.proofs.Rows.{Clearing}
-use Rattle.cam_chain.proofs.chain.shift_up.Given as goal
-
-abbrev pub invariant-loop-i : goal.invariant-loop-i
-invariant-loop-i l = Clearing 0 l.i l.initial.rows l.rows

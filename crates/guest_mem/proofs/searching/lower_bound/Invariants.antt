@@ -1,0 +1,14 @@
+use Rattle.std.proofs.Common.{ℕ, ◌-◌, ◌<◌, ◌≤◌, length, get_or}
+use Rattle.guest_mem.proofs.searching.lower_bound.Given as goal
+
+-- what was passed on the left is below the number, and what was passed on the right is not
+abbrev pub invariant-loop-low : goal.invariant-loop-low
+invariant-loop-low l = record {
+  order : l.low ≤ l.high;
+  inside : l.high ≤ length l.numbers;
+  below : (k : ℕ) → k < l.low → get_or l.numbers k 0 < l.number;
+  above : (k : ℕ) → l.high ≤ k → k < length l.numbers → l.number ≤ get_or l.numbers k 0;
+}
+
+abbrev pub decreases-loop-low : goal.decreases-loop-low
+decreases-loop-low l = l.high - l.low

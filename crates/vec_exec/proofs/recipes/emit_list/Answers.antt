@@ -1,0 +1,25 @@
+use Rattle.std.proofs.Common.{◌≡◌, Bool, true, false, ◌||◌, refl}
+use Rattle.gen_arith.specs.Kinds.{sum_takes_mask, truth_takes_mask}
+use Rattle.gen_logic.specs.Values.{takes_mask}
+use Rattle.vec_exec.specs.Recipes.{list_of, Computes}
+use Rattle.vec_exec.proofs.recipes.emit_list.Goals as goal
+
+alone : (b : Bool) → b || false ≡ b
+alone true = refl
+alone false = refl
+
+pub returns-in-Bits-clause-computes : goal.returns-in-Bits-clause-computes
+unfolding Computes list_of
+returns-in-Bits-clause-computes g c = rw c.in-Bits.is (rw alone at (c.emit_logic.ensures.realises false))
+
+pub returns-in-Sums-clause-computes : goal.returns-in-Sums-clause-computes
+unfolding Computes list_of
+returns-in-Sums-clause-computes g c = rw c.in-Sums.is (rw alone at (c.emit_sum.ensures.realises false))
+
+pub returns-in-Truths-clause-computes : goal.returns-in-Truths-clause-computes
+unfolding Computes list_of
+returns-in-Truths-clause-computes g c = rw c.in-Truths.is (rw alone at (c.emit_truth.ensures.tells false))
+
+pub returns-in-Choices-clause-computes : goal.returns-in-Choices-clause-computes
+unfolding Computes list_of
+returns-in-Choices-clause-computes g c = rw c.in-Choices.is (c.emit_choice.ensures.realises false)
