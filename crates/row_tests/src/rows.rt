@@ -129,3 +129,44 @@ fn ends_are_counted_and_found(rt: HostRuntime) -> Result<(), Fail> {
     }
     Ok(())
 }
+
+// The words of a row of zeros whose last bit is set; they are its own again after it took them, and the match of
+// the zeros of a row of zeros sets its places and no others.
+#[derive(Clone, Copy)]
+struct Words {
+    len: u32,
+    number: usize,
+    last: u64,
+}
+
+#[rattlefmt::skip]
+const WORDS: [Words; 5] = [
+    Words { len: 1, number: 1, last: 1 },
+    Words { len: 63, number: 1, last: 0x4000_0000_0000_0000 },
+    Words { len: 64, number: 1, last: 0x8000_0000_0000_0000 },
+    Words { len: 65, number: 2, last: 1 },
+    Words { len: 2048, number: 32, last: 0x8000_0000_0000_0000 },
+];
+
+fn are_words(alloc: Global, row: Words) -> Result<bool, Fail> {
+    if row.len == 0 || row.len > 2048 {
+        return Ok(false);
+    }
+    let zeros = Row::new(alloc, row.len)?;
+    let mut bits = Row::new(alloc, row.len)?;
+    bits.set(row.len - 1, true);
+    let shown = bits.words().len() == row.number && bits.words().last() == Some(&row.last);
+    let mut taken = Row::new(alloc, row.len)?;
+    taken.set_words(bits.words());
+    let same = taken.count() == 1 && taken.first() == Some(row.len - 1);
+    bits.match_from(&zeros, false);
+    Ok(shown && same && bits.count() == row.len)
+}
+
+#[test]
+fn words_are_shown_and_taken(rt: HostRuntime) -> Result<(), Fail> {
+    for (i, row) in WORDS.iter().enumerate() {
+        assert!(rt; are_words(rt.alloc(), *row)?, "row {i}");
+    }
+    Ok(())
+}
