@@ -7,7 +7,7 @@ use std::env::Env;
 use std::process::ExitCode;
 use std::{env, io};
 
-// The status of the process where the words cannot be had.
+// The status of the process where it cannot get the words.
 const NO_WORDS: u8 = 116;
 
 // The words after the program's name.

@@ -141,7 +141,7 @@ pub(crate) fn push_image(image: &mut Vec<u32>, text: &str) -> Result<(), Unread>
     Ok(())
 }
 
-// Appends the byte of an escape, and the text behind it.
+// Appends the byte of an escape, and the text after it.
 fn push_escape(bytes: &mut Vec<u8>, text: &str) -> Result<(), Unread> {
     if let Some(rest) = text.strip_prefix("n") {
         bytes.push(b'\n')?;
