@@ -6,20 +6,13 @@ ghost use Rattle.library_probe.specs.Texts.{is_operand, is_place, ops_text, list
 use crate::kinds::{kind_named, size_named};
 use crate::lists::list_of;
 use itoa::Buffer;
-use micro_ir::{LineBuf, MicroOp, Place, listing};
+use micro_ir::{
+    LEFT_ROW, LineBuf, MASK_ROW, MicroOp, Place, RIGHT_ROW, SCALAR_ROW, listing,
+};
 use std::alloc::{AllocError, Global};
 
 // The rows below are registers.
 const REGISTERS: u8 = 32;
-
-// The rows of mask bits, of the scalar, and of wide operands.
-const MASK_ROW: u8 = 33;
-
-const SCALAR_ROW: u8 = 34;
-
-const LEFT_ROW: u8 = 55;
-
-const RIGHT_ROW: u8 = 56;
 
 // What is told of a line of another form.
 pub(crate) const NO_FORM: &str = "form\n";

@@ -5,13 +5,8 @@
 ghost use Rattle.std.specs.Prelude.{◌≡◌, ◌+◌, ◌<◌, [], ◌∷◌, ◌++◌};
 ghost use Rattle.mask_window.specs.Operations.{active_operation, free_operation, MarksActive, MarksAgnostic};
 
-use micro_ir::{MicroBuf, MicroOp};
+use micro_ir::{ACTIVE_ROW, FREE_ROW, MicroBuf, MicroOp};
 use vtype_cfg::Cfg;
-
-// The rows of active and of agnostic elements.
-const ACTIVE_ROW: u8 = 32;
-
-const FREE_ROW: u8 = 52;
 
 /// Marks the active elements of a register, whose first element has the number `first` and whose
 /// elements have `width` bits: those from `vstart` on and below `vl` and, where `masked`, with their
