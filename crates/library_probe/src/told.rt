@@ -6,9 +6,7 @@ ghost use Rattle.library_probe.specs.Texts.{is_operand, is_place, ops_text, list
 use crate::kinds::{kind_named, size_named};
 use crate::lists::list_of;
 use itoa::Buffer;
-use micro_ir::{
-    LEFT_ROW, LineBuf, MASK_ROW, MicroOp, Place, RIGHT_ROW, SCALAR_ROW, listing,
-};
+use micro_ir::{LEFT_ROW, LineBuf, MASK_ROW, MicroOp, Place, RIGHT_ROW, SCALAR_ROW, listing};
 use std::alloc::{AllocError, Global};
 
 // The rows below are registers.
