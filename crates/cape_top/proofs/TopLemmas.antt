@@ -1,5 +1,5 @@
 -- How a command ends, by what was loaded; and a machine at its start shows the opening state.
-use Rattle.std.proofs.Common.{◌≡◌, ◌⊎◌, inl, inr, ℕ, ◌/◌, List, [], map, Option, Some, None, true, refl, sym, ap, subst, IfSome, option_map}
+use Rattle.std.proofs.Common.{◌≡◌, ◌⊎◌, inl, inr, ℕ, ◌/◌, List, [], map, Option, Some, None, true, false, refl, sym, ap, subst, IfSome, option_map}
 use Rattle.std.specs.Io.KnownBytes.{Appends}
 use Rattle.std.specs.Option.{option_map_or}
 use Rattle.cape_io.specs.Devices.{AppendsPrefix, KnownFile, Unknown, Absent, Present}
