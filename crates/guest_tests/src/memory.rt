@@ -143,7 +143,7 @@ fn answers(alloc: Global, mem: &mut Mem, step: &Step) -> Result<bool, NoMemory> 
             need.bits() > 0 && is_lent(mem.range_in_page(address, len, need), answer)
         }
         Step::StoreInPage(address, bytes, answer) => {
-            (address % PAGE_SIZE) as usize + bytes.len() <= PAGE_SIZE as usize
+            bytes.len() <= (PAGE_SIZE - address % PAGE_SIZE) as usize
                 && mem.store_in_page(address, bytes) == answer
         }
         Step::Break(answer) => mem.brk() == answer,

@@ -1,4 +1,4 @@
-//! Tests of words, of rows of bits, of chains of them, of the network that moves bits between columns, and of
+//! Tests of rows of bits, of chains of them, of the network that moves bits between columns, and of
 //! the tree that counts tags. They use public calls alone, so they stand in a crate of their own: a
 //! change of a test does not prove the libraries again.
 #![tactic(auto)]
@@ -6,13 +6,9 @@
 #[cfg(test)]
 mod chains;
 #[cfg(test)]
-mod kernels;
-#[cfg(test)]
 mod keys;
 #[cfg(test)]
 mod networks;
-#[cfg(test)]
-mod planes;
 #[cfg(test)]
 mod rows;
 #[cfg(test)]
