@@ -17,6 +17,8 @@ pub(crate) enum Asked<'a> {
     },
     /// What a vector word means, and whether it is legal.
     Word(Question),
+    /// The listing of a word.
+    Text(u32),
 }
 
 /// What a line asks, or `None` where it has another form.
@@ -25,6 +27,7 @@ pub(crate) fn asked_in(line: &str) -> Option<Asked<'_>> {
     match parts.next()? {
         "kind" => kind_in(&mut parts),
         "word" => word_in(&mut parts),
+        "text" => text_in(&mut parts),
         _ => None,
     }
 }
@@ -62,4 +65,10 @@ fn word_in<'a>(parts: &mut SplitWhitespace<'a>) -> Option<Asked<'a>> {
         vstart,
         vlen,
     }))
+}
+
+/// A word alone.
+fn text_in<'a>(parts: &mut SplitWhitespace<'a>) -> Option<Asked<'a>> {
+    let word = u32::from_str_radix(parts.next()?, HEXADECIMAL).ok()?;
+    parts.next().is_none().then_some(Asked::Text(word))
 }
