@@ -11,6 +11,8 @@ const KIND: &str = "kind";
 
 const WORD: &str = "word";
 
+const TEXT: &str = "text";
+
 /// What a line asks.
 #[derive(Clone, Copy)]
 pub(crate) enum Asked<'a> {
@@ -22,6 +24,8 @@ pub(crate) enum Asked<'a> {
     },
     /// What a vector word means, and whether it is legal.
     Word(Question),
+    /// The listing of a word.
+    Text(u32),
 }
 
 // The place of the rows of two operands and of a result, where these are all the words.
@@ -68,6 +72,7 @@ pub(crate) fn asked_in<'a>(words: &[&'a str]) -> Option<Asked<'a>>
             at: place_in(rows)?,
         }),
         [first, rest @ ..] if *first == WORD => Some(Asked::Word(question_in(rest)?)),
+        [first, word] if *first == TEXT => Some(Asked::Text(hexadecimal_of(word)?)),
         _ => None,
     }
 }

@@ -1,4 +1,4 @@
-//! Tells what the libraries say of kinds of operation and of vector words, for comparisons with other models. The first
+//! Tells what the libraries say of kinds of operation and of words, for comparisons with other models. The first
 //! word of a line of the input says what it asks:
 //!
 //! - `kind` is followed by the name of a kind, the width of its elements, the rows of its two operands and the register of
@@ -7,6 +7,8 @@
 //! - `word` is followed by a word and the bits of a vector type, both in hexadecimal, and the first element and the bits of
 //!   a register in decimal, as in `word c2432257 00 0 1024`. It gets `none` where the word has no row in the table of vector
 //!   words, and else the word of the instruction and whether it is legal, as `c2432257 illegal`.
+//! - `text` is followed by a word in hexadecimal, as in `text 02218257`. It gets the listing of the word, as
+//!   `vadd.vv v4, v2, v3`.
 //!
 //! A line of another form gets `form`.
 #![tactic(auto)]
@@ -22,7 +24,7 @@ use lines::{Asked, asked_in};
 use std::io;
 use std::io::{BufRead, BufReader, BufWriter, Write};
 use told::{NO_FORM, told_of};
-use words::answer_to;
+use words::{answer_to, listed};
 
 fn main(rt: HostRuntime) -> io::Result<()> {
     let alloc = rt.alloc();
@@ -35,6 +37,7 @@ fn main(rt: HostRuntime) -> io::Result<()> {
                 out.write_all(told_of(alloc, name, width, &at)?.as_bytes())?;
             }
             Some(Asked::Word(question)) => writeln!(out, "{}", answer_to(&question))?,
+            Some(Asked::Text(word)) => writeln!(out, "{}", listed(word).as_str())?,
             None => out.write_all(NO_FORM.as_bytes())?,
         }
     }

@@ -1,8 +1,11 @@
-//! What is told of vector words.
+//! What is told of words.
 ghost use Rattle.std.specs.Prelude.{◌≡◌};
+ghost use Rattle.code_list.specs.Spelling.{listing};
 ghost use Rattle.rvv_decode.specs.Rows.{means};
 ghost use Rattle.library_probe.specs.Answers.{answer_of};
 
+use code_list::text;
+use line_text::LineBuf;
 use rvv_decode::decode_v;
 use std::fmt;
 use vtype_cfg::{Vtype, legal};
@@ -57,4 +60,13 @@ pub(crate) fn answer_to(question: &Question) -> Answer
         },
         None => Answer::None,
     }
+}
+
+/// The listing of a word.
+pub(crate) fn listed(word: u32) -> LineBuf
+    ensures { result.bytes ≡ listing word }
+{
+    let mut line = LineBuf::new();
+    text(word, &mut line);
+    line
 }
