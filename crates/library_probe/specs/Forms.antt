@@ -47,10 +47,10 @@ abbrev pub kind_by : List (List ℕ) → Option AskedText
 kind_by (name ∷ width ∷ rows) = option_map (OfKind name width) (place_by rows)
 kind_by _ = None
 
--- the words after the first of a line about a listing
-abbrev pub text_by : List (List ℕ) → Option AskedText
-text_by (word ∷ []) = option_map OfText (hexadecimal_in word)
-text_by _ = None
+-- a word alone
+abbrev pub word_by : List (List ℕ) → Option ℕ
+word_by (word ∷ []) = hexadecimal_in word
+word_by _ = None
 
 -- what the words of a line ask, of which the first says which of the three it is
 abbrev pub asked_by : List (List ℕ) → Option AskedText
@@ -58,5 +58,5 @@ asked_by [] = None
 asked_by (first ∷ rest) =
     if bytes_eq first (codes "kind") then kind_by rest
     else if bytes_eq first (codes "word") then option_map OfWord (question_by rest)
-    else if bytes_eq first (codes "text") then text_by rest
+    else if bytes_eq first (codes "text") then option_map OfText (word_by rest)
     else None

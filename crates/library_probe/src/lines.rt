@@ -1,6 +1,6 @@
 //! What a line of the input asks.
 ghost use Rattle.std.specs.Prelude.{◌≡◌, option_map};
-ghost use Rattle.library_probe.specs.Forms.{asked_by, place_by, question_by, texts_of, view_of};
+ghost use Rattle.library_probe.specs.Forms.{asked_by, place_by, question_by, texts_of, view_of, word_by};
 
 use crate::numbers::{byte_of, decimal_of, hexadecimal_of};
 use crate::words::Question;
@@ -61,6 +61,16 @@ fn question_in(words: &[&str]) -> Option<Question>
     })
 }
 
+// A word, where it is all the words.
+fn word_in(words: &[&str]) -> Option<u32>
+    ensures { result ≡ word_by (texts_of words.now) }
+{
+    let [word] = words else {
+        return None;
+    };
+    hexadecimal_of(word)
+}
+
 /// What the words of a line ask, or `None` where they have another form.
 pub(crate) fn asked_in<'a>(words: &[&'a str]) -> Option<Asked<'a>>
     ensures { option_map view_of result ≡ asked_by (texts_of words.now) }
@@ -72,7 +82,7 @@ pub(crate) fn asked_in<'a>(words: &[&'a str]) -> Option<Asked<'a>>
             at: place_in(rows)?,
         }),
         [first, rest @ ..] if *first == WORD => Some(Asked::Word(question_in(rest)?)),
-        [first, word] if *first == TEXT => Some(Asked::Text(hexadecimal_of(word)?)),
+        [first, rest @ ..] if *first == TEXT => Some(Asked::Text(word_in(rest)?)),
         _ => None,
     }
 }
