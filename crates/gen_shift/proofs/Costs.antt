@@ -49,6 +49,16 @@ stage-counts kind w b p j h low =
     ∙ counts-add _ _ _ _ _ _ _ _ (broadcast-counts w b j low) (after-counts kind w p h)
     ∙ counts-same _ _ _ _ _ _ (omega arith) (omega arith) (omega arith)
 
+-- the passes of one stage more, and of the sign
+more-passes : (n m p q : ℕ) → q ≡ p * 2 → 0 < p → n * m + (p - 1) + (m + p) ≡ suc n * m + (q - 1)
+more-passes n m p q d some = omega (arith, d, some)
+
+plain-passes : (l m : ℕ) → 0 + (l * m + m) ≡ (l + 1) * m
+plain-passes l m = omega arith
+
+signed-passes : (l m : ℕ) → m + (l * m + m) ≡ (l + 2) * m
+signed-passes l m = omega arith
+
 stages-counts : (kind : Shift) (w b n : ℕ) → 2 ^ n ≤ w
     → steps_counts (stages kind w b n) ≡ counts (n * (w + 8 + fill_count kind)) (n * (w + 5 + fill_count kind)) (n * (w - 1) + (2 ^ n - 1))
 unfolding stages
@@ -61,7 +71,7 @@ stages-counts kind w b (suc n) room =
     let inside : n < w = omega arith in
     steps_counts-append (stages kind w b n) (stage kind w b (is_odd n) n (2 ^ n))
     ∙ counts-add _ _ _ _ _ _ _ _ (stages-counts kind w b n half) (stage-counts kind w b (is_odd n) n (2 ^ n) inside)
-    ∙ counts-same _ _ _ _ _ _ (omega arith) (omega arith) (omega (arith, d, some))
+    ∙ counts-same _ _ _ _ _ _ (omega arith) (omega arith) (more-passes n (w - 1) (2 ^ n) (2 ^ suc n) d some)
 
 -- the searches, the updates and the passes that the sign takes before the stages
 abbrev sign_count : Shift → (w : ℕ) → ℕ
@@ -89,9 +99,9 @@ whole-counts kind w l a b is =
     ∙ counts-same _ _ _ _ _ _ (omega arith) (omega arith) (omega (arith, is))
 
 raw-counts : (kind : Shift) (w l a b : ℕ) → w ≡ 2 ^ l → steps_counts (shifting kind w l a b) ≡ raw_counts kind w l
-raw-counts Sll w l a b is = whole-counts Sll w l a b is ∙ counts-same _ _ _ _ _ _ (omega arith) (omega arith) (omega arith)
-raw-counts Srl w l a b is = whole-counts Srl w l a b is ∙ counts-same _ _ _ _ _ _ (omega arith) (omega arith) (omega arith)
-raw-counts Sra w l a b is = whole-counts Sra w l a b is ∙ counts-same _ _ _ _ _ _ (omega arith) (omega arith) (omega arith)
+raw-counts Sll w l a b is = whole-counts Sll w l a b is ∙ counts-same _ _ _ _ _ _ (omega arith) (omega arith) (plain-passes l (w - 1))
+raw-counts Srl w l a b is = whole-counts Srl w l a b is ∙ counts-same _ _ _ _ _ _ (omega arith) (omega arith) (plain-passes l (w - 1))
+raw-counts Sra w l a b is = whole-counts Sra w l a b is ∙ counts-same _ _ _ _ _ _ (omega arith) (omega arith) (signed-passes l (w - 1))
 
 -- ---- lengths
 
@@ -103,9 +113,9 @@ pass-one zero some = absurd (omega arith)
 pass-one (suc h) some = refl
 
 after-length : (kind : Shift) (w : ℕ) (p : Bool) (h : ℕ) → 0 < h → steps_length (after_broadcast kind w p h) ≡ 12 + fill_length kind
-after-length Sll w p h some = omega (arith, pass-one h some)
-after-length Srl w p h some = omega (arith, pass-one h some)
-after-length Sra w p h some = omega (arith, pass-one h some)
+after-length Sll w p h some = rw (pass-one h some) (omega arith)
+after-length Srl w p h some = rw (pass-one h some) (omega arith)
+after-length Sra w p h some = rw (pass-one h some) (omega arith)
 
 stage-steps : (kind : Shift) (w b : ℕ) (p : Bool) (j h : ℕ) → j < w → 0 < h → steps_length (stage kind w b p j h) ≡ stage_length kind w
 unfolding stage

@@ -6,7 +6,7 @@ use Rattle.std.proofs.Math.Nat.{pow-suc}
 use Rattle.bit_laws.specs.Numbers.{number}
 use Rattle.bit_laws.specs.Signed.{extended}
 use Rattle.bit_laws.proofs.Numbers.{number-lt, number-same, number-cat, bit-number}
-use Rattle.micro_ir.specs.Steps.{steps_on, micros}
+use Rattle.micro_ir.specs.Steps.{steps_on, micros, element}
 use Rattle.micro_ir.specs.Pieces.{ups}
 use Rattle.micro_ir.proofs.Lift.{micros-element}
 use Rattle.micro_ir.proofs.Effects.{ups-row, ups-else, ups-here, ups-fit}
@@ -18,8 +18,15 @@ use Rattle.gen_shift.proofs.Ints.{above-none}
 level-number : (n : ℕ) (s : Bool) → number n (λ j. s) + cond s 1 0 ≡ cond s (2 ^ n) 0
 level-number zero true = refl
 level-number zero false = refl
-level-number (suc n) true = let h = level-number n true in let p : 2 ^ suc n ≡ 2 ^ n * 2 = pow-suc 2 n in omega (arith, h, p)
-level-number (suc n) false = let h = level-number n false in omega (arith, h)
+level-number (suc n) true =
+    let h : number n (λ j. true) + 1 ≡ 2 ^ n = level-number n true in
+    let p : 2 ^ suc n ≡ 2 ^ n * 2 = pow-suc 2 n in
+    let all : number n (λ j. true) + 2 ^ n + 1 ≡ 2 ^ suc n = omega (arith, h, p) in
+    all
+level-number (suc n) false =
+    let h : number n (λ j. false) + 0 ≡ 0 = level-number n false in
+    let all : number n (λ j. false) + 0 + 0 ≡ 0 = omega (arith, h) in
+    all
 
 -- the number of v bits, and of as many bits more that are all the same
 level-above : (v d : ℕ) (s : Bool) (f : ℕ → Bool) → ((j : ℕ) → j < d → f (v + j) ≡ s) → number (v + d) f ≡ number v f + cond s (2 ^ (v + d) - 2 ^ v) 0
@@ -29,14 +36,15 @@ level-above v d s f above =
   where
     by : (s : Bool) → number v f + number d (λ j. s) * 2 ^ v ≡ number v f + cond s (2 ^ (v + d) - 2 ^ v) 0
     by true =
-        let h : number d (λ j. true) + 1 ≡ 2 ^ d = omega (arith, level-number d true) in
+        let h : number d (λ j. true) + 1 ≡ 2 ^ d = level-number d true in
         let n : ℕ = number d (λ j. true) in
         let p : 2 ^ (v + d) ≡ 2 ^ v * 2 ^ d = pow-add 2 v d in
         let q : 2 ^ v * 2 ^ d ≡ n * 2 ^ v + 2 ^ v = rw (← h) (product (2 ^ v) n) in
         omega (arith, p, q)
     by false =
-        let h : number d (λ j. false) ≡ 0 = omega (arith, level-number d false) in
-        rw h (omega arith)
+        let h : number d (λ j. false) + 0 ≡ 0 = level-number d false in
+        let z : number d (λ j. false) ≡ 0 = omega (arith, h) in
+        rw z (omega arith)
     product : (x n : ℕ) → x * (n + 1) ≡ n * x + x
     product x n = omega arith
 
@@ -49,10 +57,14 @@ extended-number v w x y some less small under over =
     let e : v + d ≡ w = omega arith in
     let s = x (v - 1) in
     let none : (i : ℕ) → v ≤ i → i < w → x i ≡ false = λ i l m. sym (bit-number w x i m) ∙ above-none (number w x) v i small l in
-    let narrow : number w x ≡ number v x = ap (λ (n : ℕ). number n x) (sym e) ∙ level-above v d false x (λ j l. none (v + j) (omega arith) (omega arith)) ∙ omega arith in
+    let zero_more : number v x + 0 ≡ number v x = omega arith in
+    let narrow : number w x ≡ number v x =
+    ap (λ (n : ℕ). number n x) (sym e) ∙ level-above v d false x (λ j l. none (v + j) (omega arith) (omega arith)) ∙ zero_more in
     let wide : number w y ≡ number v y + cond s (2 ^ (v + d) - 2 ^ v) 0 = ap (λ (n : ℕ). number n y) (sym e) ∙ level-above v d s y (λ j l. over (v + j) (omega arith) (omega arith)) in
-    let low : number v y ≡ number v x = number-same v y x under in
-    rw (wide, low, narrow, e) (by-sign v x (2 ^ w - 2 ^ v) some)
+    let same : number v y ≡ number v x = number-same v y x under in
+    let more : 2 ^ (v + d) - 2 ^ v ≡ 2 ^ w - 2 ^ v = ap (λ (n : ℕ). 2 ^ n - 2 ^ v) e in
+    let joined : number v y + cond s (2 ^ (v + d) - 2 ^ v) 0 ≡ number v x + cond s (2 ^ w - 2 ^ v) 0 = λ i. same i + cond s (more i) 0 in
+    wide ∙ joined ∙ by-sign v x (2 ^ w - 2 ^ v) some ∙ ap (extended true v w) (sym narrow)
   where
     by-sign : (v : ℕ) (x : ℕ → Bool) (more : ℕ) → 0 < v → number v x + cond (x (v - 1)) more 0 ≡ cond (true && not (ltb (number v x) (2 ^ (v - 1)))) (number v x + more) (number v x)
     by-sign zero x more some = absurd (omega arith)
@@ -81,4 +93,4 @@ extends v w row e some less =
 pub extends-sign : (v w row : ℕ) → 0 < v → v < w → ExtendsSign v w row (micros w (extension v w row))
 unfolding ExtendsSign
 extends-sign v w row some less s k col inside column =
-    rw (micros-element w k col (extension v w row) s (ups-fit w row (v - 1) (w - v) (omega arith)) inside column) (extends v w row _ some less)
+    rw (micros-element w k col (extension v w row) s (ups-fit w row (v - 1) (w - v) (omega arith)) inside column) (extends v w row (element w k col s) some less)

@@ -6,7 +6,7 @@ use Rattle.bit_laws.specs.Numbers.{number}
 use Rattle.bit_laws.proofs.Numbers.{number-same}
 use Rattle.micro_ir.specs.Kinds.{Writes}
 use Rattle.micro_ir.specs.Pieces.{commit}
-use Rattle.micro_ir.specs.Steps.{steps_on}
+use Rattle.micro_ir.specs.Steps.{steps_on, element}
 use Rattle.micro_ir.specs.WorkRows.{IsOperandRow}
 use Rattle.micro_ir.specs.declared.place.Place.{Place}
 use Rattle.micro_ir.proofs.Committed.{commit-writes, lifted}
@@ -39,7 +39,7 @@ shift-number kind w l a b e now is s = number-same w (now (shifted_row l)) (move
 pub leaves-shift : (kind : Shift) (w l : ℕ) (at : Place) → w ≡ 2 ^ l → IsOperandRow at.a → IsOperandRow at.b → LeavesShift kind w l at
 unfolding LeavesValue
 leaves-shift kind w l at is a b s k col inside column =
-    rw (micros-element w k col (shifting kind w l at.a at.b) s (shifting-fits kind w l at.a at.b is) inside column) (done _)
+    rw (micros-element w k col (shifting kind w l at.a at.b) s (shifting-fits kind w l at.a at.b is) inside column) (done (element w k col s))
   where
     done : (e : ℕ → ℕ → Bool) → Leaves w (shifted_row l) shift_rows (λ n. shift_value kind w l (n at.a) (n at.b)) e (steps_on (shifting kind w l at.a at.b) e)
     done e =

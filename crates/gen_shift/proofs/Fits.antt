@@ -1,8 +1,8 @@
 -- No step of a shift leaves its element.
-use Rattle.std.proofs.Common.{◌≡◌, ◌≢◌, ℕ, zero, suc, ◌+◌, ◌-◌, ◌*◌, ◌^◌, ◌<◌, ◌≤◌, Bool, true, false, not, List, [], ◌∷◌, ◌++◌, refl, ◌∙◌, arith, inl}
+use Rattle.std.proofs.Common.{◌≡◌, ◌≢◌, ℕ, zero, suc, ◌+◌, ◌-◌, ◌*◌, ◌^◌, ◌<◌, ◌≤◌, Bool, true, false, not, List, [], ◌∷◌, ◌++◌, length, refl, ◌∙◌, arith, inl}
 use Rattle.std.proofs.lemmas.Nat.{pow_pos}
 use Rattle.std.proofs.Math.Nat.{pow-suc}
-use Rattle.micro_ir.specs.Steps.{Step, Fits, AllFit}
+use Rattle.micro_ir.specs.Steps.{Step, pass_of, Fits, AllFit}
 use Rattle.micro_ir.specs.WorkRows.{active_row, broadcast_row}
 use Rattle.micro_ir.specs.Pieces.{StaysIn, clear, commit, broadcast, everywhere}
 use Rattle.micro_ir.proofs.Folds.{copy-whole}
@@ -15,12 +15,21 @@ use Rattle.gen_shift.specs.Rows.{moved_row, sign_row, shift_role, shifted_row, i
 use Rattle.gen_shift.specs.Lists.{goes_up, move_range, slide, top_range, top_bits, filling, merging, stage, stages, signing, shifting, shift_steps}
 use Rattle.gen_shift.proofs.Barrel.{below-power}
 
+one-pass : (up : Bool) (h : ℕ) → 0 < h → length (pass_of up h) ≡ 1
+one-pass up zero some = absurd (omega arith)
+one-pass up (suc h) some = refl
+
 pub move-stays : (w : ℕ) (up : Bool) (h : ℕ) → h ≤ w → StaysIn w (move_range up w h)
 move-stays w true h room = record { top = omega arith; low = omega arith }
 move-stays w false h room = record { top = omega arith; low = omega arith }
 
 pub top-stays : (w h : ℕ) → StaysIn w (top_range w h)
 top-stays w h = record { top = omega arith; low = omega arith }
+
+-- a move by some places is one pass
+pub move-pass : (w : ℕ) (up : Bool) (h : ℕ) → 0 < h → length (pass_of (move_range up w h).up (move_range up w h).times) ≡ 1
+move-pass w true h some = one-pass true h some
+move-pass w false h some = one-pass false h some
 
 slide-fits : (w : ℕ) (up : Bool) (row out h : ℕ) → h ≤ w → Fits w (slide w up row out h)
 slide-fits w up row out h room = ranged-fits w (row ∷ []) (1 ∷ []) out (move_range up w h) (move-stays w up h room) (inl (copy-whole row))

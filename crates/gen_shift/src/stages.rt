@@ -3,7 +3,7 @@ ghost use Rattle.std.specs.Prelude.{◌≡◌, ℕ, ◌+◌, ◌*◌, ◌^◌, �
 ghost use Rattle.micro_ir.specs.Steps.{micro, micros};
 ghost use Rattle.micro_ir.specs.WorkRows.{IsOperandRow};
 ghost use Rattle.gen_shift.specs.Rows.{moved_row, sign_row};
-ghost use Rattle.gen_shift.specs.Lists.{filling, sign_steps, signing, stage, stages, top_bits};
+ghost use Rattle.gen_shift.specs.Lists.{filling, goes_up, sign_steps, signing, slide, stage, stages, top_bits};
 ghost use Rattle.gen_shift.specs.Kinds.{fill_length, sign_length, stage_length};
 
 use crate::kinds::{Shift, is_left, is_signed, kept_bits};
@@ -75,6 +75,20 @@ fn emit_filling<W: Width>(buf: &mut MicroBuf, by: u8, kind: Shift)
     }
 }
 
+// Row `former`, moved by so many places, into the moved row, which is clear.
+fn emit_slide<W: Width>(buf: &mut MicroBuf, former: u8, by: u8, kind: Shift)
+    requires former { former < 64 }
+    requires some { 0 < by }
+    requires by { by ≤ W.BITS }
+    requires room { 3 ≤ buf.old.spare }
+    ensures ops { buf.new.ops
+        ≡ buf.old.ops ++ micro W.BITS (slide W.BITS (goes_up kind) former moved_row by) }
+    ensures spare { buf.new.spare + 3 ≡ buf.old.spare }
+{
+    let kept = kept_bits(is_left(kind), W::BITS as u8, by);
+    emit_rows::<W>(buf, &[former], &ONE_ON, MOVED_ROW, kept);
+}
+
 // A stage that moves by so many places where a bit of row `b` is 1.
 fn emit_stage<W: Width>(buf: &mut MicroBuf, b: u8, odd: bool, bit: u8, by: u8, kind: Shift)
     requires b { IsOperandRow b }
@@ -89,8 +103,7 @@ fn emit_stage<W: Width>(buf: &mut MicroBuf, b: u8, odd: bool, bit: u8, by: u8, k
     let next = shift_row(!odd);
     emit_broadcast::<W>(buf, b, bit);
     emit_clear(buf, MOVED_ROW);
-    let kept = kept_bits(is_left(kind), W::BITS as u8, by);
-    emit_rows::<W>(buf, &[former], &ONE_ON, MOVED_ROW, kept);
+    emit_slide::<W>(buf, former, by, kind);
     emit_filling::<W>(buf, by, kind);
     emit_clear(buf, next);
     emit_everywhere(

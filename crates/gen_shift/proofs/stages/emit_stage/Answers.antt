@@ -4,8 +4,7 @@ use Rattle.micro_ir.specs.WorkRows.{broadcast_row}
 use Rattle.micro_ir.specs.Pieces.{broadcast, clear}
 use Rattle.gen_shift.specs.Rows.{moved_row, shift_role}
 use Rattle.gen_shift.specs.Lists.{goes_up, filling, merging, slide}
-use Rattle.gen_shift.proofs.Fits.{move-stays}
-use Rattle.gen_shift.proofs.Stays.{operand-row, operand-apart, one-row, three-rows}
+use Rattle.gen_shift.proofs.Stays.{operand-row, operand-apart, three-rows}
 use Rattle.gen_shift.proofs.Written.{stage-list}
 use Rattle.gen_shift.proofs.stages.emit_stage.Goals as goal
 
@@ -14,12 +13,6 @@ emit_broadcast-requires-clause-row g c = operand-row c.args.b c.requires.b
 
 pub emit_broadcast-requires-clause-apart : goal.emit_broadcast-requires-clause-apart
 emit_broadcast-requires-clause-apart g c = operand-apart c.args.b c.requires.b
-
-pub emit_rows-requires-clause-rows : goal.emit_rows-requires-clause-rows
-emit_rows-requires-clause-rows g c = one-row c.shift_row-former.result c.shift_row-former.ensures.row
-
-pub emit_rows-requires-clause-range : goal.emit_rows-requires-clause-range
-emit_rows-requires-clause-range g c = rw (c.kept_bits-kept.ensures, c.BITS.ensures) (move-stays g.W.Width.BITS c.is_left.result c.args.by c.requires.by)
 
 pub emit_everywhere-requires-clause-rows : goal.emit_everywhere-requires-clause-rows
 emit_everywhere-requires-clause-rows g c = three-rows c.shift_row-former.result c.shift_row-former.ensures.row
@@ -32,9 +25,9 @@ returns-clause-ops g c =
     let next = shift_role (not c.args.odd) in
     let amount : c.emit_broadcast.new.buf.ops ≡ c.args.buf.now.ops ++ micros w (broadcast w c.args.b c.args.bit) = c.emit_broadcast.ensures.ops in
     let cleared : c.emit_clear.new.buf.ops ≡ c.emit_broadcast.new.buf.ops ++ micro w (clear w moved_row) = c.emit_clear.ensures.ops w some in
-    let moved : c.emit_rows.new.buf.ops ≡ c.emit_clear.new.buf.ops ++ micro w (slide w (goes_up c.args.kind) former moved_row c.args.by) =
-    rw (c.kept_bits-kept.ensures, c.is_left.ensures, c.BITS.ensures, c.shift_row-former.ensures.role) at c.emit_rows.ensures.ops in
-    let filled : c.emit_filling.new.buf.ops ≡ c.emit_rows.new.buf.ops ++ micros w (filling c.args.kind w c.args.by) = c.emit_filling.ensures.ops in
+    let moved : c.emit_slide.new.buf.ops ≡ c.emit_clear.new.buf.ops ++ micro w (slide w (goes_up c.args.kind) former moved_row c.args.by) =
+    rw c.shift_row-former.ensures.role at c.emit_slide.ensures.ops in
+    let filled : c.emit_filling.new.buf.ops ≡ c.emit_slide.new.buf.ops ++ micros w (filling c.args.kind w c.args.by) = c.emit_filling.ensures.ops in
     let emptied : c.emit_clear-2.new.buf.ops ≡ c.emit_filling.new.buf.ops ++ micro w (clear w next) = rw c.shift_row-next.ensures.role at (c.emit_clear-2.ensures.ops w some) in
     let merged : c.emit_everywhere.new.buf.ops ≡ c.emit_clear-2.new.buf.ops ++ micro w (merging w c.args.odd) =
     rw (c.shift_row-former.ensures.role, c.shift_row-next.ensures.role) at (c.emit_everywhere.ensures.ops w some) in
