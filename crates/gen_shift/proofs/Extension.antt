@@ -45,6 +45,7 @@ level-above v d s f above =
         let h : number d (λ j. false) + 0 ≡ 0 = level-number d false in
         let z : number d (λ j. false) ≡ 0 = omega (arith, h) in
         rw z (omega arith)
+
     product : (x n : ℕ) → x * (n + 1) ≡ n * x + x
     product x n = omega arith
 

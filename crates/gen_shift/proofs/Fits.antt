@@ -42,10 +42,14 @@ filling-fits Sra w h = (ranged-fits w (sign_row ∷ []) (1 ∷ []) moved_row (to
 stage-fits : (kind : Shift) (w b : ℕ) (p : Bool) (j h : ℕ) → j < w → h ≤ w → AllFit w (stage kind w b p j h)
 unfolding stage
 stage-fits kind w b p j h low room =
-    AllFit-append w (broadcast w b j) _ (broadcast-fits w b j low)
-    (clear-fits w moved_row, (slide-fits w (goes_up kind) (shift_role p) moved_row h room,
-    AllFit-append w (filling kind w h) _ (filling-fits kind w h)
-    (clear-fits w (shift_role (not p)), (everywhere-fits w (broadcast_row ∷ moved_row ∷ shift_role p ∷ []) (3 ∷ 4 ∷ 6 ∷ 7 ∷ []) (shift_role (not p)), tt))))
+    AllFit-append w (broadcast w b j) _ (broadcast-fits w b j low) (
+      clear-fits w moved_row,
+      (
+        slide-fits w (goes_up kind) (shift_role p) moved_row h room,
+        AllFit-append w (filling kind w h) _ (filling-fits kind w h)
+            (clear-fits w (shift_role (not p)), (everywhere-fits w (broadcast_row ∷ moved_row ∷ shift_role p ∷ []) (3 ∷ 4 ∷ 6 ∷ 7 ∷ []) (shift_role (not p)), tt)),
+      ),
+    )
 
 stages-fits : (kind : Shift) (w b n : ℕ) → 2 ^ n ≤ w → AllFit w (stages kind w b n)
 unfolding stages

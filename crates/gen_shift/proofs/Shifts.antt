@@ -150,6 +150,7 @@ up-number w n x f room =
   where
     times-less : (a b c : ℕ) → a < b → 0 < c → a * c < b * c
     times-less a b c l some = mul-lt-mul_of_pos_right l some
+
     product : (x t p q : ℕ) → (x + t * p) * q ≡ t * (p * q) + x * q
     product x t p q = omega arith
 

@@ -17,11 +17,15 @@ abbrev pub low_int : (w : ℕ) → ℤ → ℕ
 low_int w (pos n) = low w n
 low_int w (negsuc n) = 2 ^ w - 1 - low w n
 
+-- a number of w bits with a sign over 2 to the low l bits of another one, rounded down
+abbrev pub signed_shifted : (w l a b : ℕ) → ℕ
+signed_shifted w l a b = low_int w (int_shr (signed w a) (low l b))
+
 -- the values of numbers of w bits, of which the low w bits count: the amount is the low l bits of b
 abbrev pub shift_value : Shift → (w l a b : ℕ) → ℕ
 shift_value Sll w l a b = a * 2 ^ low l b
 shift_value Srl w l a b = a / 2 ^ low l b
-shift_value Sra w l a b = low_int w (int_shr (signed w a) (low l b))
+shift_value Sra w l a b = signed_shifted w l a b
 
 -- ---- shifts into a register
 

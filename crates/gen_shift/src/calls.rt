@@ -1,14 +1,12 @@
 // A call for each kind: a row of the table of shifts, and the extension by a sign.
 ghost use Rattle.std.specs.Prelude.{◌≡◌, Bool, ◌+◌, ◌-◌, ◌*◌, ◌/◌, ◌^◌, ◌<◌, ◌≤◌, ◌++◌};
-ghost use Rattle.std.specs.Int.{int_shr};
 ghost use Rattle.bit_laws.specs.Numbers.{low};
-ghost use Rattle.bit_laws.specs.Signed.{signed};
 ghost use Rattle.micro_ir.specs.Kinds.{Realises};
 ghost use Rattle.micro_ir.specs.Measures.{counts, Measured};
 ghost use Rattle.micro_ir.specs.WorkRows.{IsOperandRow};
 ghost use Rattle.gen_shift.specs.declared.kinds.Shift.TheVariants.{Sll, Srl, Sra};
 ghost use Rattle.gen_shift.specs.Rows.{shifted_row, shift_rows};
-ghost use Rattle.gen_shift.specs.Kinds.{low_int, shift_ops, raw_ops, extension_ops};
+ghost use Rattle.gen_shift.specs.Kinds.{signed_shifted, shift_ops, shift_counts, raw_ops, raw_counts, extension_ops};
 ghost use Rattle.gen_shift.specs.Laws.{LeavesValue, ExtendsSign};
 
 use crate::kinds::Shift;
@@ -27,8 +25,7 @@ pub fn emit_sll<W: Width>(buf: &mut MicroBuf, at: &Place)
     ensures spare { buf.new.spare + (W.LOG * (3 * W.BITS + 13) + 8) ≡ buf.old.spare }
     ensures realises { (reads : Bool) → Realises W.BITS at.now.to reads
         (λ n c. n at.now.a * 2 ^ low W.LOG (n at.now.b)) (shift_ops Sll W.BITS W.LOG at.now) }
-    ensures cost { Measured
-        (counts (W.LOG * (W.BITS + 8) + 4) (W.LOG * (W.BITS + 5) + 4) ((W.LOG + 1) * (W.BITS - 1)))
+    ensures cost { Measured (shift_counts Sll W.BITS W.LOG)
         (W.LOG * (3 * W.BITS + 13) + 8) (shift_ops Sll W.BITS W.LOG at.now) }
 {
     emit_shift::<W>(buf, at, Shift::Sll);
@@ -45,8 +42,7 @@ pub fn emit_srl<W: Width>(buf: &mut MicroBuf, at: &Place)
     ensures spare { buf.new.spare + (W.LOG * (3 * W.BITS + 13) + 8) ≡ buf.old.spare }
     ensures realises { (reads : Bool) → Realises W.BITS at.now.to reads
         (λ n c. n at.now.a / 2 ^ low W.LOG (n at.now.b)) (shift_ops Srl W.BITS W.LOG at.now) }
-    ensures cost { Measured
-        (counts (W.LOG * (W.BITS + 8) + 4) (W.LOG * (W.BITS + 5) + 4) ((W.LOG + 1) * (W.BITS - 1)))
+    ensures cost { Measured (shift_counts Srl W.BITS W.LOG)
         (W.LOG * (3 * W.BITS + 13) + 8) (shift_ops Srl W.BITS W.LOG at.now) }
 {
     emit_shift::<W>(buf, at, Shift::Srl);
@@ -62,10 +58,9 @@ pub fn emit_sra<W: Width>(buf: &mut MicroBuf, at: &Place)
     ensures ops { buf.new.ops ≡ buf.old.ops ++ shift_ops Sra W.BITS W.LOG at.now }
     ensures spare { buf.new.spare + (W.LOG * (3 * W.BITS + 15) + (3 * W.BITS + 9)) ≡ buf.old.spare }
     ensures realises { (reads : Bool) → Realises W.BITS at.now.to reads
-        (λ n c. low_int W.BITS (int_shr (signed W.BITS (n at.now.a)) (low W.LOG (n at.now.b))))
+        (λ n c. signed_shifted W.BITS W.LOG (n at.now.a) (n at.now.b))
         (shift_ops Sra W.BITS W.LOG at.now) }
-    ensures cost { Measured
-        (counts (W.LOG * (W.BITS + 9) + W.BITS + 5) (W.LOG * (W.BITS + 6) + W.BITS + 5) ((W.LOG + 2) * (W.BITS - 1)))
+    ensures cost { Measured (shift_counts Sra W.BITS W.LOG)
         (W.LOG * (3 * W.BITS + 15) + (3 * W.BITS + 9)) (shift_ops Sra W.BITS W.LOG at.now) }
 {
     emit_shift::<W>(buf, at, Shift::Sra);
@@ -82,8 +77,7 @@ pub fn emit_srl_raw<W: Width>(buf: &mut MicroBuf, at: &Place)
     ensures spare { buf.new.spare + (W.LOG * (3 * W.BITS + 13) + 4) ≡ buf.old.spare }
     ensures leaves { LeavesValue W.BITS (shifted_row W.LOG) shift_rows
         (λ n. n at.now.a / 2 ^ low W.LOG (n at.now.b)) (raw_ops Srl W.BITS W.LOG at.now) }
-    ensures cost { Measured
-        (counts (W.LOG * (W.BITS + 8) + 2) (W.LOG * (W.BITS + 5) + 2) ((W.LOG + 1) * (W.BITS - 1)))
+    ensures cost { Measured (raw_counts Srl W.BITS W.LOG)
         (W.LOG * (3 * W.BITS + 13) + 4) (raw_ops Srl W.BITS W.LOG at.now) }
 {
     emit_raw::<W>(buf, at, Shift::Srl);
@@ -99,10 +93,9 @@ pub fn emit_sra_raw<W: Width>(buf: &mut MicroBuf, at: &Place)
     ensures ops { buf.new.ops ≡ buf.old.ops ++ raw_ops Sra W.BITS W.LOG at.now }
     ensures spare { buf.new.spare + (W.LOG * (3 * W.BITS + 15) + (3 * W.BITS + 5)) ≡ buf.old.spare }
     ensures leaves { LeavesValue W.BITS (shifted_row W.LOG) shift_rows
-        (λ n. low_int W.BITS (int_shr (signed W.BITS (n at.now.a)) (low W.LOG (n at.now.b))))
+        (λ n. signed_shifted W.BITS W.LOG (n at.now.a) (n at.now.b))
         (raw_ops Sra W.BITS W.LOG at.now) }
-    ensures cost { Measured
-        (counts (W.LOG * (W.BITS + 9) + W.BITS + 3) (W.LOG * (W.BITS + 6) + W.BITS + 3) ((W.LOG + 2) * (W.BITS - 1)))
+    ensures cost { Measured (raw_counts Sra W.BITS W.LOG)
         (W.LOG * (3 * W.BITS + 15) + (3 * W.BITS + 5)) (raw_ops Sra W.BITS W.LOG at.now) }
 {
     emit_raw::<W>(buf, at, Shift::Sra);
