@@ -118,6 +118,10 @@ stages-within kind w b (suc n) = within-append stage_rows (stages kind w b n) (s
 pub few-stages : (w l : ℕ) → w ≡ 2 ^ l → w ≤ 32 → l ≤ 5
 few-stages w l is room =
     ⊎_elim
-    (λ (m : 5 < l). let h : 2 ^ 6 ≤ 2 ^ l = pow_mono (omega arith) in let k : 64 ≤ 2 ^ l = h in absurd (omega arith))
+    (λ (m : 5 < l).
+    let more : 6 ≤ l = omega arith in
+    let h : 2 ^ 6 ≤ 2 ^ l = pow_mono {i = 6} {j = l} more in
+    let k : 64 ≤ 2 ^ l = h in
+    absurd (omega (arith, k, is, room)))
     (λ (m : l ≤ 5). m)
     (cases_lt 5 l)

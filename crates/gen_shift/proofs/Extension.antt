@@ -34,6 +34,8 @@ level-above v d s f above =
     let top : number d (λ j. f (v + j)) ≡ number d (λ j. s) = number-same d (λ j. f (v + j)) (λ j. s) above in
     number-cat v d f ∙ rw top (by s)
   where
+    product : (x n : ℕ) → x * (n + 1) ≡ n * x + x
+    product x n = omega arith
     by : (s : Bool) → number v f + number d (λ j. s) * 2 ^ v ≡ number v f + cond s (2 ^ (v + d) - 2 ^ v) 0
     by true =
         let h : number d (λ j. true) + 1 ≡ 2 ^ d = level-number d true in
@@ -46,8 +48,6 @@ level-above v d s f above =
         let z : number d (λ j. false) ≡ 0 = omega (arith, h) in
         rw z (omega arith)
 
-    product : (x n : ℕ) → x * (n + 1) ≡ n * x + x
-    product x n = omega arith
 
 -- The bits from place v on are those of the sign.
 extended-number : (v w : ℕ) (x y : ℕ → Bool) → 0 < v → v < w → number w x < 2 ^ v

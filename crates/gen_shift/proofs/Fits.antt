@@ -19,34 +19,34 @@ one-pass : (up : Bool) (h : ℕ) → 0 < h → length (pass_of up h) ≡ 1
 one-pass up zero some = absurd (omega arith)
 one-pass up (suc h) some = refl
 
-pub move-stays : (w : ℕ) (up : Bool) (h : ℕ) → h ≤ w → StaysIn w (move_range up w h)
-move-stays w true h room = record { top = omega arith; low = omega arith }
-move-stays w false h room = record { top = omega arith; low = omega arith }
+pub move-stays : (w : ℕ) (up : Bool) (h : ℕ) → h < w → StaysIn w (move_range up w h)
+move-stays w true h room = record { top = omega arith; low = omega arith; near = room }
+move-stays w false h room = record { top = omega arith; low = omega arith; near = room }
 
-pub top-stays : (w h : ℕ) → StaysIn w (top_range w h)
-top-stays w h = record { top = omega arith; low = omega arith }
+pub top-stays : (w h : ℕ) → 0 < w → StaysIn w (top_range w h)
+top-stays w h some = record { top = omega arith; low = omega arith; near = some }
 
 -- a move by some places is one pass
 pub move-pass : (w : ℕ) (up : Bool) (h : ℕ) → 0 < h → length (pass_of (move_range up w h).up (move_range up w h).times) ≡ 1
 move-pass w true h some = one-pass true h some
 move-pass w false h some = one-pass false h some
 
-slide-fits : (w : ℕ) (up : Bool) (row out h : ℕ) → h ≤ w → Fits w (slide w up row out h)
+slide-fits : (w : ℕ) (up : Bool) (row out h : ℕ) → h < w → Fits w (slide w up row out h)
 slide-fits w up row out h room = ranged-fits w (row ∷ []) (1 ∷ []) out (move_range up w h) (move-stays w up h room) (inl (copy-whole row))
 
-filling-fits : (kind : Shift) (w h : ℕ) → AllFit w (filling kind w h)
-filling-fits Sll w h = tt
-filling-fits Srl w h = tt
-filling-fits Sra w h = (ranged-fits w (sign_row ∷ []) (1 ∷ []) moved_row (top_range w h) (top-stays w h) (inl (copy-whole sign_row)), tt)
+filling-fits : (kind : Shift) (w h : ℕ) → 0 < w → AllFit w (filling kind w h)
+filling-fits Sll w h some = tt
+filling-fits Srl w h some = tt
+filling-fits Sra w h some = (ranged-fits w (sign_row ∷ []) (1 ∷ []) moved_row (top_range w h) (top-stays w h some) (inl (copy-whole sign_row)), tt)
 
-stage-fits : (kind : Shift) (w b : ℕ) (p : Bool) (j h : ℕ) → j < w → h ≤ w → AllFit w (stage kind w b p j h)
+stage-fits : (kind : Shift) (w b : ℕ) (p : Bool) (j h : ℕ) → j < w → h < w → AllFit w (stage kind w b p j h)
 unfolding stage
 stage-fits kind w b p j h low room =
     AllFit-append w (broadcast w b j) _ (broadcast-fits w b j low) (
       clear-fits w moved_row,
       (
         slide-fits w (goes_up kind) (shift_role p) moved_row h room,
-        AllFit-append w (filling kind w h) _ (filling-fits kind w h)
+        AllFit-append w (filling kind w h) _ (filling-fits kind w h (omega arith))
             (clear-fits w (shift_role (not p)), (everywhere-fits w (broadcast_row ∷ moved_row ∷ shift_role p ∷ []) (3 ∷ 4 ∷ 6 ∷ 7 ∷ []) (shift_role (not p)), tt)),
       ),
     )
@@ -60,7 +60,8 @@ stages-fits kind w b (suc n) room =
     let small : n < 2 ^ n = below-power n in
     let half : 2 ^ n ≤ w = omega (arith, d, room) in
     let inside : n < w = omega arith in
-    AllFit-append w (stages kind w b n) (stage kind w b (is_odd n) n (2 ^ n)) (stages-fits kind w b n half) (stage-fits kind w b (is_odd n) n (2 ^ n) inside half)
+    let less : 2 ^ n < w = omega (arith, d, room, some) in
+    AllFit-append w (stages kind w b n) (stage kind w b (is_odd n) n (2 ^ n)) (stages-fits kind w b n half) (stage-fits kind w b (is_odd n) n (2 ^ n) inside less)
 
 signing-fits : (kind : Shift) (w a : ℕ) → 0 < w → AllFit w (signing kind w a)
 signing-fits Sll w a some = tt

@@ -79,7 +79,7 @@ fn emit_filling<W: Width>(buf: &mut MicroBuf, by: u8, kind: Shift)
 fn emit_slide<W: Width>(buf: &mut MicroBuf, former: u8, by: u8, kind: Shift)
     requires former { former < 64 }
     requires some { 0 < by }
-    requires by { by ≤ W.BITS }
+    requires by { by < W.BITS }
     requires room { 3 ≤ buf.old.spare }
     ensures ops { buf.new.ops
         ≡ buf.old.ops ++ micro W.BITS (slide W.BITS (goes_up kind) former moved_row by) }
@@ -94,7 +94,7 @@ fn emit_stage<W: Width>(buf: &mut MicroBuf, b: u8, odd: bool, bit: u8, by: u8, k
     requires b { IsOperandRow b }
     requires bit { bit < W.BITS }
     requires some { 0 < by }
-    requires by { by ≤ W.BITS }
+    requires by { by < W.BITS }
     requires room { stage_length kind W.BITS ≤ buf.old.spare }
     ensures ops { buf.new.ops ≡ buf.old.ops ++ micros W.BITS (stage kind W.BITS b odd bit by) }
     ensures spare { buf.new.spare + stage_length kind W.BITS ≡ buf.old.spare }
