@@ -13,7 +13,7 @@ use Rattle.micro_ir.proofs.Effects.{ups-counts, downs-counts, broadcast-tally, b
 use Rattle.gen_shift.specs.declared.kinds.Shift.{Shift}
 use Rattle.gen_shift.specs.declared.kinds.Shift.TheVariants.{Sll, Srl, Sra}
 use Rattle.gen_shift.specs.Rows.{moved_row, sign_row, shift_role, shifted_row, is_odd}
-use Rattle.gen_shift.specs.Lists.{goes_up, slide, top_bits, filling, merging, stage, stages, signing, shifting, shift_steps}
+use Rattle.gen_shift.specs.Lists.{goes_up, slide, filling, merging, stage, stages, signing, shifting, shift_steps}
 use Rattle.gen_shift.specs.Kinds.{shift_counts, shift_length, raw_counts, raw_length, sign_length, fill_length, stage_length}
 use Rattle.gen_shift.proofs.Barrel.{below-power}
 

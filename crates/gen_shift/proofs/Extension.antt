@@ -1,13 +1,12 @@
 -- The extension of numbers by their sign.
-use Rattle.std.proofs.Common.{◌≡◌, ◌≢◌, ℕ, zero, suc, ◌+◌, ◌-◌, ◌*◌, ◌^◌, ◌<◌, ◌≤◌, Bool, true, false, cond, not, ◌&&◌, ltb, List, [], ◌∷◌, refl, sym, ◌∙◌, ap, arith, inl, ⊎_elim}
-use Rattle.std.proofs.lemmas.Bool.{cases_lt, lt-ltb, le-ltb}
-use Rattle.std.proofs.lemmas.Nat.{pow_pos, pow-add}
+use Rattle.std.proofs.Common.{◌≡◌, ℕ, zero, suc, ◌+◌, ◌-◌, ◌*◌, ◌^◌, ◌<◌, ◌≤◌, Bool, true, false, cond, not, ◌&&◌, ltb, refl, sym, ◌∙◌, ap, arith, inl}
+use Rattle.std.proofs.lemmas.Bool.{lt-ltb, le-ltb}
+use Rattle.std.proofs.lemmas.Nat.{pow-add}
 use Rattle.std.proofs.Math.Nat.{pow-suc}
 use Rattle.bit_laws.specs.Numbers.{number}
 use Rattle.bit_laws.specs.Signed.{extended}
 use Rattle.bit_laws.proofs.Numbers.{number-lt, number-same, number-cat, bit-number}
 use Rattle.micro_ir.specs.Steps.{steps_on, micros, element}
-use Rattle.micro_ir.specs.Pieces.{ups}
 use Rattle.micro_ir.proofs.Lift.{micros-element}
 use Rattle.micro_ir.proofs.Effects.{ups-row, ups-else, ups-here, ups-fit}
 use Rattle.gen_shift.specs.Lists.{extension}
@@ -36,6 +35,7 @@ level-above v d s f above =
   where
     product : (x n : ℕ) → x * (n + 1) ≡ n * x + x
     product x n = omega arith
+
     by : (s : Bool) → number v f + number d (λ j. s) * 2 ^ v ≡ number v f + cond s (2 ^ (v + d) - 2 ^ v) 0
     by true =
         let h : number d (λ j. true) + 1 ≡ 2 ^ d = level-number d true in
@@ -47,7 +47,6 @@ level-above v d s f above =
         let h : number d (λ j. false) + 0 ≡ 0 = level-number d false in
         let z : number d (λ j. false) ≡ 0 = omega (arith, h) in
         rw z (omega arith)
-
 
 -- The bits from place v on are those of the sign.
 extended-number : (v w : ℕ) (x y : ℕ → Bool) → 0 < v → v < w → number w x < 2 ^ v

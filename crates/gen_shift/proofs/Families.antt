@@ -1,5 +1,5 @@
 -- The laws of the kinds.
-use Rattle.std.proofs.Common.{◌≡◌, ◌≢◌, ℕ, ◌+◌, ◌-◌, ◌*◌, ◌%◌, ◌^◌, ◌<◌, ◌≤◌, Bool, ◌∙◌, arith, ⊎_elim}
+use Rattle.std.proofs.Common.{◌≡◌, ◌≢◌, ℕ, ◌-◌, ◌%◌, ◌^◌, ◌<◌, ◌≤◌, Bool, ◌∙◌, arith, ⊎_elim}
 use Rattle.std.proofs.lemmas.Bool.{cases_lt}
 use Rattle.std.proofs.Math.Nat.{mod-eq_of_lt}
 use Rattle.bit_laws.specs.Numbers.{number}
@@ -13,7 +13,7 @@ use Rattle.micro_ir.proofs.Committed.{commit-writes, lifted}
 use Rattle.micro_ir.proofs.Lift.{micros-element}
 use Rattle.micro_ir.proofs.StepLists.{steps_on-append}
 use Rattle.gen_shift.specs.declared.kinds.Shift.{Shift}
-use Rattle.gen_shift.specs.Rows.{shifted_row, is_odd, is_among, shift_rows}
+use Rattle.gen_shift.specs.Rows.{shifted_row, is_odd, shift_rows}
 use Rattle.gen_shift.specs.Lists.{moved_bits, shifting, shift_steps}
 use Rattle.gen_shift.specs.Kinds.{shift_value}
 use Rattle.gen_shift.specs.Laws.{RealisesShift, Leaves, LeavesValue, LeavesShift}

@@ -1,10 +1,10 @@
 -- No step of a shift leaves its element.
-use Rattle.std.proofs.Common.{◌≡◌, ◌≢◌, ℕ, zero, suc, ◌+◌, ◌-◌, ◌*◌, ◌^◌, ◌<◌, ◌≤◌, Bool, true, false, not, List, [], ◌∷◌, ◌++◌, length, refl, ◌∙◌, arith, inl}
+use Rattle.std.proofs.Common.{◌≡◌, ◌≢◌, ℕ, zero, suc, ◌-◌, ◌*◌, ◌^◌, ◌<◌, ◌≤◌, Bool, true, false, not, [], ◌∷◌, length, refl, arith, inl}
 use Rattle.std.proofs.lemmas.Nat.{pow_pos}
 use Rattle.std.proofs.Math.Nat.{pow-suc}
-use Rattle.micro_ir.specs.Steps.{Step, pass_of, Fits, AllFit}
+use Rattle.micro_ir.specs.Steps.{pass_of, Fits, AllFit}
 use Rattle.micro_ir.specs.WorkRows.{active_row, broadcast_row}
-use Rattle.micro_ir.specs.Pieces.{StaysIn, clear, commit, broadcast, everywhere}
+use Rattle.micro_ir.specs.Pieces.{StaysIn, commit, broadcast}
 use Rattle.micro_ir.proofs.Folds.{copy-whole}
 use Rattle.micro_ir.proofs.StepLists.{AllFit-append}
 use Rattle.micro_ir.proofs.OneElement.{everywhere-fits, clear-fits, above-fits, ranged-fits, commit-fits}
@@ -12,7 +12,7 @@ use Rattle.micro_ir.proofs.Effects.{downs-fit, broadcast-fits}
 use Rattle.gen_shift.specs.declared.kinds.Shift.{Shift}
 use Rattle.gen_shift.specs.declared.kinds.Shift.TheVariants.{Sll, Srl, Sra}
 use Rattle.gen_shift.specs.Rows.{moved_row, sign_row, shift_role, shifted_row, is_odd}
-use Rattle.gen_shift.specs.Lists.{goes_up, move_range, slide, top_range, top_bits, filling, merging, stage, stages, signing, shifting, shift_steps}
+use Rattle.gen_shift.specs.Lists.{goes_up, move_range, slide, top_range, filling, stage, stages, signing, shifting, shift_steps}
 use Rattle.gen_shift.proofs.Barrel.{below-power}
 
 one-pass : (up : Bool) (h : ℕ) → 0 < h → length (pass_of up h) ≡ 1

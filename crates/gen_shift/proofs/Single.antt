@@ -1,7 +1,7 @@
 -- Single steps of a shift, by what they write.
-use Rattle.std.proofs.Common.{◌≡◌, ◌≢◌, ℕ, ◌+◌, ◌-◌, ◌<◌, ◌≤◌, Bool, true, false, ◌||◌, ◌&&◌, ltb, leb, cond, List, [], ◌∷◌, map, refl, sym, ap, ◌∙◌, arith, ⊎_elim}
+use Rattle.std.proofs.Common.{◌≡◌, ℕ, ◌+◌, ◌-◌, ◌<◌, ◌≤◌, Bool, true, false, ◌||◌, ◌&&◌, ltb, leb, [], ◌∷◌, refl, sym, ◌∙◌, arith, ⊎_elim}
 use Rattle.std.proofs.lemmas.Bool.{cases_lt, lt-ltb, le-ltb, le-leb, lt-leb}
-use Rattle.micro_ir.specs.Steps.{Step, fires, step_on, moved, source}
+use Rattle.micro_ir.specs.Steps.{fires, step_on, moved}
 use Rattle.micro_ir.proofs.OneElement.{hit, fires-hit, step-here, step-else}
 use Rattle.gen_shift.specs.Lists.{slide, top_bits}
 

@@ -1,5 +1,5 @@
 -- One stage of a shift.
-use Rattle.std.proofs.Common.{◌≡◌, ◌≢◌, ℕ, zero, suc, ◌+◌, ◌-◌, ◌<◌, ◌≤◌, Bool, true, false, ◌||◌, ◌&&◌, ltb, cond, not, List, [], ◌∷◌, ◌++◌, refl, ap, ◌∙◌, arith, ⊎_elim}
+use Rattle.std.proofs.Common.{◌≡◌, ◌≢◌, ℕ, ◌+◌, ◌-◌, ◌<◌, ◌≤◌, Bool, true, false, ◌||◌, ◌&&◌, ltb, cond, not, List, [], ◌∷◌, ◌++◌, refl, ap, ◌∙◌, arith, ⊎_elim}
 use Rattle.std.proofs.lemmas.Bool.{cases_lt, lt-ltb, le-ltb, le-leb, lt-leb}
 use Rattle.micro_ir.specs.Steps.{Step, step_on, steps_on}
 use Rattle.micro_ir.specs.Pieces.{clear, broadcast}
@@ -10,7 +10,7 @@ use Rattle.micro_ir.proofs.Effects.{broadcast-on}
 use Rattle.gen_shift.specs.declared.kinds.Shift.{Shift}
 use Rattle.gen_shift.specs.declared.kinds.Shift.TheVariants.{Sll, Srl, Sra}
 use Rattle.gen_shift.specs.Rows.{moved_row, sign_row, shift_role, is_among, stage_rows}
-use Rattle.gen_shift.specs.Lists.{slide, top_bits, filling, merging, stage, goes_up, fills, moved_bits}
+use Rattle.gen_shift.specs.Lists.{slide, filling, merging, stage, goes_up, fills, moved_bits}
 use Rattle.gen_shift.proofs.Stays.{Within, stays, within-append, within-broadcast}
 use Rattle.gen_shift.proofs.Single.{slide-up, slide-down, top-here}
 

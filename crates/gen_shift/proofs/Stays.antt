@@ -1,9 +1,9 @@
 -- The rows that lists of steps write. All others stay.
-use Rattle.std.proofs.Common.{◌≡◌, ◌≢◌, ℕ, zero, suc, ◌+◌, ◌-◌, ◌<◌, ◌≤◌, Bool, true, false, ◌||◌, ◌&&◌, eqb, ltb, List, [], ◌∷◌, ◌++◌, refl, sym, ap, ◌∙◌, arith, inl, inr, ⊎_elim}
+use Rattle.std.proofs.Common.{◌≡◌, ◌≢◌, ℕ, zero, suc, ◌+◌, ◌-◌, ◌<◌, ◌≤◌, Bool, true, false, ◌&&◌, ltb, List, [], ◌∷◌, ◌++◌, refl, sym, ap, ◌∙◌, arith, inl, inr, ⊎_elim}
 use Rattle.std.specs.Prelude.{IsTrue}
 use Rattle.std.proofs.lemmas.Bool.{cases_lt, lt-ltb, le-ltb, ne_eqb}
 use Rattle.micro_ir.specs.Steps.{Step, step_on, steps_on}
-use Rattle.micro_ir.specs.Pieces.{above, below, ups, downs, broadcast}
+use Rattle.micro_ir.specs.Pieces.{above, ups, downs, broadcast}
 use Rattle.micro_ir.specs.WorkRows.{IsOperandRow, scalar_row, broadcast_row}
 use Rattle.micro_ir.proofs.OneElement.{step-row}
 use Rattle.micro_ir.specs.Folding.{are_rows}

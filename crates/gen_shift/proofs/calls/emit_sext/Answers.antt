@@ -1,4 +1,4 @@
-use Rattle.std.proofs.Common.{◌≡◌, ◌-◌}
+use Rattle.std.proofs.Common.{◌-◌}
 use Rattle.gen_shift.proofs.Costs.{ups-measured}
 use Rattle.gen_shift.proofs.Extension.{extends-sign}
 use Rattle.gen_shift.proofs.calls.emit_sext.Goals as goal

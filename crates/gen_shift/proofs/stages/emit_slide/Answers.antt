@@ -1,4 +1,4 @@
-use Rattle.std.proofs.Common.{◌≡◌, ◌+◌, arith}
+use Rattle.std.proofs.Common.{arith}
 use Rattle.gen_shift.proofs.Fits.{move-stays, move-pass}
 use Rattle.gen_shift.proofs.Stays.{one-row}
 use Rattle.gen_shift.proofs.stages.emit_slide.Goals as goal

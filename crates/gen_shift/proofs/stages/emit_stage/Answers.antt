@@ -1,6 +1,5 @@
-use Rattle.std.proofs.Common.{◌≡◌, ◌<◌, true, not, [], ◌∷◌, ◌++◌, ◌∙◌, append_assoc, arith}
+use Rattle.std.proofs.Common.{◌≡◌, ◌<◌, not, ◌++◌, ◌∙◌, append_assoc, arith}
 use Rattle.micro_ir.specs.Steps.{micro, micros}
-use Rattle.micro_ir.specs.WorkRows.{broadcast_row}
 use Rattle.micro_ir.specs.Pieces.{broadcast, clear}
 use Rattle.gen_shift.specs.Rows.{moved_row, shift_role}
 use Rattle.gen_shift.specs.Lists.{goes_up, filling, merging, slide}

@@ -1,4 +1,4 @@
-use Rattle.std.proofs.Common.{◌≡◌, ◌<◌, ◌++◌, arith}
+use Rattle.std.proofs.Common.{arith}
 use Rattle.gen_shift.proofs.Fits.{top-stays}
 use Rattle.gen_shift.proofs.stages.emit_top.Goals as goal
 
