@@ -16,7 +16,13 @@ BITWISE = ["and", "or", "xor", "move", "merge", "nand", "nor", "xnor", "andn", "
 SUMS = ["add", "sub", "adc", "sbc"]
 TRUTHS = ["madc", "madc_in", "msbc", "msbc_in", "eq", "ne", "ltu", "lt", "leu", "le", "gtu", "gt"]
 CHOICES = ["minu", "min", "maxu", "max"]
-KINDS = BITWISE + SUMS + TRUTHS + CHOICES
+SHIFTS = ["sll", "srl", "sra"]
+# Shifts without a commit, and the shift that each is the list of before its commit.
+RAW = {"srl_raw": "srl", "sra_raw": "sra"}
+COMMIT_LENGTH = 4
+# Extensions by the sign, and the bits of what is extended.
+EXTENSIONS = {"sext_8": 8, "sext_16": 16}
+KINDS = BITWISE + SUMS + TRUTHS + CHOICES + SHIFTS + list(RAW) + list(EXTENSIONS)
 WIDTHS = [8, 16, 32]
 # The rows of the operands: two registers, one register twice, and the row of the scalar with a register and the other way
 # round. The result goes to another register.
@@ -34,8 +40,15 @@ ON_ELEMENTS = {
     "and": (9, 1), "or": (10, 1), "xor": (11, 1), "move": (23, 1), "merge": (23, 0), "add": (0, 1), "sub": (2, 1),
     "adc": (16, 0), "sbc": (18, 0), "madc": (17, 1), "madc_in": (17, 0), "msbc": (19, 1), "msbc_in": (19, 0), "eq": (24, 1),
     "ne": (25, 1), "ltu": (26, 1), "lt": (27, 1), "leu": (28, 1), "le": (29, 1), "gtu": (30, 1), "gt": (31, 1), "minu": (4, 1),
-    "min": (5, 1), "maxu": (6, 1), "max": (7, 1),
+    "min": (5, 1), "maxu": (6, 1), "max": (7, 1), "sll": (37, 1), "srl": (40, 1), "sra": (41, 1),
 }
+# The funct6 of the narrowing shifts, whose lists have a shift without a commit at twice their width.
+NARROWING = {"srl_raw": 44, "sra_raw": 45}
+# The funct6 of the extensions, and the field that says to how many times as many bits.
+EXTENDING = 18
+TIMES = {2: 7, 4: 5}
+# An extension works in the row of results.
+RESULT_ROW = 36
 # The funct6 of the kinds that only words on masks have.
 ON_MASKS = {"andn": 24, "orn": 28, "nand": 29, "nor": 30, "xnor": 31}
 # That of the difference whose first operand is the scalar.
@@ -48,7 +61,11 @@ SCALAR_REGISTER = 6
 MOST_OPERATIONS = 1000
 # What the frame of an instruction has before the list of its kind, and behind it.
 BEFORE = re.compile(rf"window .*|search \w+ 0|update \w+ {SCALAR_ROW} [01]")
+BEFORE_EXTENSION = re.compile(r"window .*|spread .*")
 AFTER = re.compile(r"packmask .*")
+# What follows a shift without a commit, and what follows an extension: the commit of its row.
+NARROWED = re.compile(r"narrow .*")
+COMMITTED = re.compile(rf"search \w+ 32=1 {RESULT_ROW}=[01] 0|update \w+ {TO} [01]")
 # vsetivli with a length of 2, into x1
 SET_TYPE = 0xC00170D7
 
@@ -112,7 +129,7 @@ def compare_hashes(told_path, hashes_path):
     different = []
     same = 0
     for (kind, width, rows), lines in told_lists(told_path).items():
-        if rows != APART:
+        if rows != APART or kind in RAW or kind in EXTENSIONS:
             continue
         ours = len(lines), hash_of(lines)
         theirs = known.get((kind.replace("_", ""), width))
@@ -128,6 +145,8 @@ def word_of(kind, rows):
     a, b = rows
     if kind in ON_MASKS:
         return None if SCALAR_ROW in rows else ON_MASKS[kind] << 26 | 1 << 25 | a << 20 | b << 15 | M << 12 | TO << 7 | 0x57
+    if kind in RAW:
+        return NARROWING[kind] << 26 | 1 << 25 | a << 20 | SCALAR_REGISTER << 15 | X << 12 | TO << 7 | 0x57 if rows == SCALAR else None
     funct6, unmasked = ON_ELEMENTS[kind]
     form = V
     if rows == SCALAR_FIRST:
@@ -155,29 +174,60 @@ def model_list(model, folder, word, width):
     return [line.split(maxsplit=2)[2] for line in lines if line.startswith("micro ")]
 
 
-def is_framed(part, whole):
+def is_framed(part, whole, before=BEFORE, after=AFTER):
     """The list, behind windows and a splat of the scalar, and before the packing of a mask."""
     return any(
         whole[at:at + len(part)] == part
-        and all(BEFORE.fullmatch(line) for line in whole[:at])
-        and all(AFTER.fullmatch(line) for line in whole[at + len(part):])
+        and all(before.fullmatch(line) for line in whole[:at])
+        and all(after.fullmatch(line) for line in whole[at + len(part):])
         for at in range(len(whole) - len(part) + 1)
     )
 
 
+def is_narrowed(part, whole):
+    """The list, behind windows and a splat of the scalar, and before a narrowing of what it leaves."""
+    ends = [at for at, line in enumerate(whole) if NARROWED.fullmatch(line)]
+    return bool(ends) and is_framed(part, whole[:ends[0]])
+
+
+def extended_list(model, folder, kind, width):
+    """The operations of an extension from the bits of the kind, or none where no instruction has them."""
+    times = width // EXTENSIONS[kind]
+    if times not in TIMES:
+        return None
+    word = EXTENDING << 26 | 1 << 25 | APART[0] << 20 | TIMES[times] << 15 | M << 12 | TO << 7 | 0x57
+    return model_list(model, folder, word, width)
+
+
+def in_result_row(lines):
+    """The operations of an extension of a register, as those of the row of results."""
+    register = APART[0]
+    renamed = (line.replace(f" {register}=", f" {RESULT_ROW}=") for line in lines)
+    return [re.sub(rf"^(update \w+) {register} ", rf"\1 {RESULT_ROW} ", line) for line in renamed]
+
+
+def is_same_list(model, folder, told, question_of):
+    """Whether the list of a kind, a width and rows is that of the model, or none where the model has no such list."""
+    kind, width, rows = question_of
+    lines = told[question_of]
+    if kind in EXTENSIONS:
+        theirs = extended_list(model, folder, kind, width) if rows == APART else None
+        return None if theirs is None else bool(lines) and is_framed(in_result_row(lines), theirs, BEFORE_EXTENSION, COMMITTED)
+    if kind in RAW and lines != told[RAW[kind], width, rows][:-COMMIT_LENGTH]:
+        return False
+    word = word_of(kind, rows)
+    narrow = width // 2 if kind in RAW else width
+    if word is None or narrow not in WIDTHS:
+        return None
+    theirs = model_list(model, folder, word, narrow)
+    return bool(lines) and (is_narrowed(lines, theirs) if kind in RAW else is_framed(lines, theirs))
+
+
 def compare_guests(model, folder, told_path):
-    different = []
-    same = 0
-    for (kind, width, rows), lines in told_lists(told_path).items():
-        word = word_of(kind, rows)
-        if word is None:
-            continue
-        theirs = model_list(model, folder, word, width)
-        if lines and is_framed(lines, theirs):
-            same += 1
-        else:
-            different.append(f"{question(kind, width, rows)} is not the list of {word:08x} in the model")
-    finish("lists of instructions", same, different)
+    told = told_lists(told_path)
+    answers = {asked: is_same_list(model, folder, told, asked) for asked in told}
+    different = [f"{question(*asked)} is not the list of the model" for asked, same in answers.items() if same is False]
+    finish("lists of instructions", sum(same is True for same in answers.values()), different)
 
 
 if __name__ == "__main__":

@@ -6,6 +6,8 @@ use Rattle.micro_ir.specs.Steps.{Step, micros}
 use Rattle.gen_arith.specs.Recipes.{sum_steps, add, sub, adc, sbc, truth_steps, madc, madc_in, msbc, msbc_in, eq, ne, ltu, lt, leu, le, gtu, gt, choice_steps, first_on, second_on}
 use Rattle.gen_logic.specs.Recipes.{logic_steps}
 use Rattle.gen_logic.specs.declared.kinds.Logic.TheVariants.{And as LogicAnd, Or as LogicOr, Xor as LogicXor, Nand as LogicNand, Nor as LogicNor, Xnor as LogicXnor, Andn as LogicAndn, Orn as LogicOrn, Second as LogicSecond, Merge as LogicMerge}
+use Rattle.gen_shift.specs.Lists.{shifting, shift_steps, extension}
+use Rattle.gen_shift.specs.declared.kinds.Shift.TheVariants.{Sll as ShiftSll, Srl as ShiftSrl, Sra as ShiftSra}
 use Rattle.library_probe.specs.declared.kinds.Size.{Size}
 use Rattle.library_probe.specs.declared.kinds.Size.TheVariants.{Byte, Half, Word}
 use Rattle.library_probe.specs.declared.kinds.Bitwise.{Bitwise}
@@ -16,14 +18,24 @@ use Rattle.library_probe.specs.declared.kinds.Truth.{Truth}
 use Rattle.library_probe.specs.declared.kinds.Truth.TheVariants.{Madc, MadcIn, Msbc, MsbcIn, Eq, Ne, Ltu, Lt, Leu, Le, Gtu, Gt}
 use Rattle.library_probe.specs.declared.kinds.Choice.{Choice}
 use Rattle.library_probe.specs.declared.kinds.Choice.TheVariants.{Minu, Min, Maxu, Max}
+use Rattle.library_probe.specs.declared.kinds.Shifted.{Shifted}
+use Rattle.library_probe.specs.declared.kinds.Shifted.TheVariants.{Sll, Srl, Sra, SrlRaw, SraRaw}
+use Rattle.library_probe.specs.declared.kinds.Source.{Source}
+use Rattle.library_probe.specs.declared.kinds.Source.TheVariants.{Eight, Sixteen}
 use Rattle.library_probe.specs.declared.kinds.Kind.{Kind}
-use Rattle.library_probe.specs.declared.kinds.Kind.TheVariants.{Bits, Sum, Tells, Chooses}
+use Rattle.library_probe.specs.declared.kinds.Kind.TheVariants.{Bits, Sum, Tells, Chooses, Shifts, Extends}
 
 -- the bits of an element
 abbrev pub bits_of : Size → ℕ
 bits_of Byte = 8
 bits_of Half = 16
 bits_of Word = 32
+
+-- how often 2 is multiplied to give them
+abbrev pub log_of : Size → ℕ
+log_of Byte = 3
+log_of Half = 4
+log_of Word = 5
 
 -- the steps of a kind that acts bit by bit, from the width and the place
 abbrev pub bitwise_steps : Bitwise → ℕ → Place → List Step
@@ -67,13 +79,31 @@ chosen_steps Min w at = choice_steps lt first_on w at.a at.b at.to
 chosen_steps Maxu w at = choice_steps ltu second_on w at.a at.b at.to
 chosen_steps Max w at = choice_steps lt second_on w at.a at.b at.to
 
+-- the steps of a shift, whose width is 2^l bits
+abbrev pub shifted_steps : Shifted → (w l : ℕ) → Place → List Step
+shifted_steps Sll w l at = shift_steps ShiftSll w l at.a at.b at.to
+shifted_steps Srl w l at = shift_steps ShiftSrl w l at.a at.b at.to
+shifted_steps Sra w l at = shift_steps ShiftSra w l at.a at.b at.to
+shifted_steps SrlRaw w l at = shifting ShiftSrl w l at.a at.b
+shifted_steps SraRaw w l at = shifting ShiftSra w l at.a at.b
+
+-- the bits of the numbers that are extended, and the steps of that
+abbrev pub source_bits : Source → ℕ
+source_bits Eight = 8
+source_bits Sixteen = 16
+
+abbrev pub extended_steps : Source → ℕ → Place → List Step
+extended_steps source w at = extension (source_bits source) w at.a
+
 -- the steps of any kind
-abbrev pub kind_steps : Kind → ℕ → Place → List Step
-kind_steps (Bits kind) w at = bitwise_steps kind w at
-kind_steps (Sum kind) w at = added_steps kind w at
-kind_steps (Tells kind) w at = told_steps kind w at
-kind_steps (Chooses kind) w at = chosen_steps kind w at
+abbrev pub kind_steps : Kind → (w l : ℕ) → Place → List Step
+kind_steps (Bits kind) w l at = bitwise_steps kind w at
+kind_steps (Sum kind) w l at = added_steps kind w at
+kind_steps (Tells kind) w l at = told_steps kind w at
+kind_steps (Chooses kind) w l at = chosen_steps kind w at
+kind_steps (Shifts kind) w l at = shifted_steps kind w l at
+kind_steps (Extends source) w l at = extended_steps source w at
 
 -- the micro-operations of a kind
 abbrev pub kind_ops : Kind → Size → Place → List MicroOp
-kind_ops kind size at = micros (bits_of size) (kind_steps kind (bits_of size) at)
+kind_ops kind size at = micros (bits_of size) (kind_steps kind (bits_of size) (log_of size) at)

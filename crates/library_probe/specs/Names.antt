@@ -11,8 +11,12 @@ use Rattle.library_probe.specs.declared.kinds.Truth.{Truth}
 use Rattle.library_probe.specs.declared.kinds.Truth.TheVariants.{Madc, MadcIn, Msbc, MsbcIn, Eq, Ne, Ltu, Lt, Leu, Le, Gtu, Gt}
 use Rattle.library_probe.specs.declared.kinds.Choice.{Choice}
 use Rattle.library_probe.specs.declared.kinds.Choice.TheVariants.{Minu, Min, Maxu, Max}
+use Rattle.library_probe.specs.declared.kinds.Shifted.{Shifted}
+use Rattle.library_probe.specs.declared.kinds.Shifted.TheVariants.{Sll, Srl, Sra, SrlRaw, SraRaw}
+use Rattle.library_probe.specs.declared.kinds.Source.{Source}
+use Rattle.library_probe.specs.declared.kinds.Source.TheVariants.{Eight, Sixteen}
 use Rattle.library_probe.specs.declared.kinds.Kind.{Kind}
-use Rattle.library_probe.specs.declared.kinds.Kind.TheVariants.{Bits, Sum, Tells, Chooses}
+use Rattle.library_probe.specs.declared.kinds.Kind.TheVariants.{Bits, Sum, Tells, Chooses, Shifts, Extends}
 
 -- the widths, in bits
 abbrev pub size_in : List ℕ → Option Size
@@ -72,6 +76,23 @@ choice_in name =
     else if bytes_eq name (codes "max") then Some Max
     else None
 
+-- shifts, into a register and without a commit
+abbrev pub shift_in : List ℕ → Option Shifted
+shift_in name =
+    if bytes_eq name (codes "sll") then Some Sll
+    else if bytes_eq name (codes "srl") then Some Srl
+    else if bytes_eq name (codes "sra") then Some Sra
+    else if bytes_eq name (codes "srl_raw") then Some SrlRaw
+    else if bytes_eq name (codes "sra_raw") then Some SraRaw
+    else None
+
+-- extensions of numbers of 8 and of 16 bits by their sign
+abbrev pub source_in : List ℕ → Option Source
+source_in name =
+    if bytes_eq name (codes "sext_8") then Some Eight
+    else if bytes_eq name (codes "sext_16") then Some Sixteen
+    else None
+
 -- the first of two, or the second where there is none
 abbrev pub first_of : Option Kind → Option Kind → Option Kind
 first_of None other = other
@@ -82,4 +103,6 @@ abbrev pub kind_in : List ℕ → Option Kind
 kind_in name =
     first_of (option_map Bits (bitwise_in name))
     (first_of (option_map Sum (sum_in name))
-    (first_of (option_map Tells (truth_in name)) (option_map Chooses (choice_in name))))
+    (first_of (option_map Tells (truth_in name))
+    (first_of (option_map Chooses (choice_in name))
+    (first_of (option_map Shifts (shift_in name)) (option_map Extends (source_in name))))))

@@ -1,6 +1,6 @@
 //! The kinds of operation and the widths of elements, and their names.
 ghost use Rattle.std.specs.Prelude.{◌≡◌};
-ghost use Rattle.library_probe.specs.Names.{size_in, bitwise_in, sum_in, truth_in, choice_in, kind_in};
+ghost use Rattle.library_probe.specs.Names.{size_in, bitwise_in, sum_in, truth_in, choice_in, shift_in, source_in, kind_in};
 
 /// A width of elements.
 #[derive(Clone, Copy)]
@@ -60,6 +60,23 @@ pub(crate) enum Choice {
     Max,
 }
 
+/// Shifts, into a register and without a commit.
+#[derive(Clone, Copy)]
+pub(crate) enum Shifted {
+    Sll,
+    Srl,
+    Sra,
+    SrlRaw,
+    SraRaw,
+}
+
+/// The bits of the numbers that are extended by their sign.
+#[derive(Clone, Copy)]
+pub(crate) enum Source {
+    Eight,
+    Sixteen,
+}
+
 /// A kind of operation.
 #[derive(Clone, Copy)]
 pub(crate) enum Kind {
@@ -67,6 +84,8 @@ pub(crate) enum Kind {
     Sum(Added),
     Tells(Truth),
     Chooses(Choice),
+    Shifts(Shifted),
+    Extends(Source),
 }
 
 /// The width that a word names.
@@ -147,6 +166,31 @@ fn choice_named(word: &str) -> Option<Choice>
     }
 }
 
+/// The shift of this name.
+fn shift_named(word: &str) -> Option<Shifted>
+    ensures { result ≡ shift_in word.now }
+{
+    match word {
+        "sll" => Some(Shifted::Sll),
+        "srl" => Some(Shifted::Srl),
+        "sra" => Some(Shifted::Sra),
+        "srl_raw" => Some(Shifted::SrlRaw),
+        "sra_raw" => Some(Shifted::SraRaw),
+        _ => None,
+    }
+}
+
+/// The extension of this name.
+fn source_named(word: &str) -> Option<Source>
+    ensures { result ≡ source_in word.now }
+{
+    match word {
+        "sext_8" => Some(Source::Eight),
+        "sext_16" => Some(Source::Sixteen),
+        _ => None,
+    }
+}
+
 /// The kind that a word names.
 pub(crate) fn kind_named(word: &str) -> Option<Kind>
     ensures { result ≡ kind_in word.now }
@@ -159,6 +203,10 @@ pub(crate) fn kind_named(word: &str) -> Option<Kind>
         Some(Kind::Tells(kind))
     } else if let Some(kind) = choice_named(word) {
         Some(Kind::Chooses(kind))
+    } else if let Some(kind) = shift_named(word) {
+        Some(Kind::Shifts(kind))
+    } else if let Some(source) = source_named(word) {
+        Some(Kind::Extends(source))
     } else {
         None
     }

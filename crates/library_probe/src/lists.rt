@@ -1,10 +1,11 @@
 //! The list of a kind.
 ghost use Rattle.std.specs.Prelude.{◌≡◌, ◌+◌, ◌*◌, ◌<◌, ◌≤◌, ◌++◌, IfOk};
+ghost use lib.Dec.{ltb};
 ghost use Rattle.micro_ir.specs.Steps.{micros};
 ghost use Rattle.micro_ir.specs.WorkRows.{IsOperandRow};
-ghost use Rattle.library_probe.specs.Lists.{bitwise_steps, added_steps, told_steps, chosen_steps, kind_steps, kind_ops};
+ghost use Rattle.library_probe.specs.Lists.{bitwise_steps, added_steps, told_steps, chosen_steps, shifted_steps, source_bits, extended_steps, kind_steps, kind_ops};
 
-use crate::kinds::{Added, Bitwise, Choice, Kind, Size, Truth};
+use crate::kinds::{Added, Bitwise, Choice, Kind, Shifted, Size, Source, Truth};
 use bit_laws::{W8, W16, W32, Width};
 use gen_arith::{
     emit_adc, emit_add, emit_eq, emit_gt, emit_gtu, emit_le, emit_leu, emit_lt, emit_ltu,
@@ -15,11 +16,15 @@ use gen_logic::{
     emit_and, emit_andn, emit_merge, emit_move, emit_nand, emit_nor, emit_or, emit_orn, emit_xnor,
     emit_xor,
 };
+use gen_shift::{emit_sext, emit_sll, emit_sra, emit_sra_raw, emit_srl, emit_srl_raw};
 use micro_ir::{MicroBuf, Place};
 use std::alloc::{AllocError, Global};
 
 // No list of a kind is longer.
 const MOST_OPS: u32 = 1024;
+
+// The rounding mode that rounds down.
+const ROUNDS_DOWN: u8 = 2;
 
 /// Appends the list of a kind that acts bit by bit.
 fn emit_bitwise<W: Width>(buf: &mut MicroBuf, kind: Bitwise, at: &Place)
@@ -100,19 +105,74 @@ fn emit_chosen<W: Width>(buf: &mut MicroBuf, kind: Choice, at: &Place)
     }
 }
 
+/// Appends the list of a shift. One without a commit rounds down.
+fn emit_shifted<W: Width>(buf: &mut MicroBuf, kind: Shifted, at: &Place)
+    requires a { IsOperandRow at.now.a }
+    requires b { IsOperandRow at.now.b }
+    requires to { at.now.to < 32 }
+    requires room { W.LOG * (3 * W.BITS + 15) + (3 * W.BITS + 9) ≤ buf.old.spare }
+    ensures { buf.new.ops
+        ≡ buf.old.ops ++ micros W.BITS (shifted_steps kind W.BITS W.LOG at.now) }
+{
+    let raw = Place {
+        mode: ROUNDS_DOWN,
+        ..*at
+    };
+    match kind {
+        Shifted::Sll => emit_sll::<W>(buf, at),
+        Shifted::Srl => emit_srl::<W>(buf, at),
+        Shifted::Sra => emit_sra::<W>(buf, at),
+        Shifted::SrlRaw => emit_srl_raw::<W>(buf, &raw),
+        Shifted::SraRaw => emit_sra_raw::<W>(buf, &raw),
+    }
+}
+
+/// The bits of the numbers that are extended.
+fn bits_of(source: Source) -> u8
+    ensures value { result ≡ source_bits source }
+    ensures some { 0 < result }
+{
+    match source {
+        Source::Eight => 8,
+        Source::Sixteen => 16,
+    }
+}
+
+/// Whether elements are wider than the numbers that are extended.
+fn is_wider<W: Width>(source: Source) -> bool
+    ensures { result ≡ ltb (source_bits source) W.BITS }
+{
+    usize::from(bits_of(source)) < W::BITS
+}
+
+/// Appends the list of an extension of the numbers in row `at.a`: nothing where they are as wide as
+/// the elements.
+fn emit_extended<W: Width>(buf: &mut MicroBuf, source: Source, at: &Place)
+    requires a { IsOperandRow at.now.a }
+    requires room { 12 * W.BITS + 11 ≤ buf.old.spare }
+    ensures { buf.new.ops ≡ buf.old.ops ++ micros W.BITS (extended_steps source W.BITS at.now) }
+{
+    if is_wider::<W>(source) {
+        emit_sext::<W>(buf, at, bits_of(source));
+    }
+}
+
 /// Appends the list of a kind.
 fn emit_kind<W: Width>(buf: &mut MicroBuf, kind: Kind, at: &Place)
     requires a { IsOperandRow at.now.a }
     requires b { IsOperandRow at.now.b }
     requires to { at.now.to < 32 }
     requires room { 12 * W.BITS + 11 ≤ buf.old.spare }
-    ensures { buf.new.ops ≡ buf.old.ops ++ micros W.BITS (kind_steps kind W.BITS at.now) }
+    requires stages { W.LOG * (3 * W.BITS + 15) + (3 * W.BITS + 9) ≤ buf.old.spare }
+    ensures { buf.new.ops ≡ buf.old.ops ++ micros W.BITS (kind_steps kind W.BITS W.LOG at.now) }
 {
     match kind {
         Kind::Bits(kind) => emit_bitwise::<W>(buf, kind, at),
         Kind::Sum(kind) => emit_added::<W>(buf, kind, at),
         Kind::Tells(kind) => emit_told::<W>(buf, kind, at),
         Kind::Chooses(kind) => emit_chosen::<W>(buf, kind, at),
+        Kind::Shifts(kind) => emit_shifted::<W>(buf, kind, at),
+        Kind::Extends(source) => emit_extended::<W>(buf, source, at),
     }
 }
 

@@ -1,14 +1,23 @@
 //! The lists of kinds of operation, carried out on a chain of one column.
 use crate::chains::{Trial, Word, cost_of};
-use bit_laws::{W8, W16};
+use bit_laws::{W8, W16, W32};
 use gen_arith::{emit_add, emit_eq, emit_lt, emit_max, emit_sbc};
 use gen_logic::{emit_and, emit_merge, emit_splat, emit_xor};
+use gen_shift::{emit_sext, emit_sll, emit_sra, emit_sra_raw, emit_srl, emit_srl_raw};
 use micro_ir::{MicroBuf, Place};
 use std::alloc::Global;
 use std::test::Fail;
 
-// Room for any list of elements of 8 bits, and for a scalar.
-const ROOM: u32 = 100;
+// Room for any of these lists.
+const ROOM: u32 = 700;
+
+// The bits of a byte and of half a word.
+const BYTE: u8 = 8;
+
+const HALF: u8 = 16;
+
+// The rounding mode that rounds down.
+const ROUNDS_DOWN: u8 = 2;
 
 // How many rows are registers.
 const REGISTERS: u8 = 32;
@@ -22,7 +31,12 @@ const SCALAR_ROW: u8 = 34;
 
 const TRUTH_ROW: u8 = 41;
 
-// What a list makes, of elements of 8 bits but for a scalar of 16.
+// Where shifts leave their results before a commit, of elements of 16 bits and of others.
+const EVEN_ROW: u8 = 38;
+
+const ODD_ROW: u8 = 39;
+
+// What a list makes: of elements of 8 bits, but for those that are named otherwise.
 #[derive(Clone, Copy)]
 enum Kind {
     Merge,
@@ -35,6 +49,22 @@ enum Kind {
     Lt,
     Eq,
     Max,
+    Sll,
+    SllHalf,
+    SllWord,
+    Srl,
+    SrlHalf,
+    SrlWord,
+    Sra,
+    SraHalf,
+    SraWord,
+    SraRaw,
+    SrlRawHalf,
+    SraRawWord,
+    // to elements of 16 bits from 8, and of 32 from 16 and from 8
+    SextHalf,
+    SextWord,
+    SextWordByte,
 }
 
 // A kind, the rows of its operands and its result; words of the chain before its list, and one after it.
@@ -77,7 +107,40 @@ const SIGNED: &[Word] = &[
 
 const ALIKE: &[Word] = &[Word(ACTIVE_ROW, 0, u32::MAX), Word(1, 0, 0x8055_01ff)];
 
-static ROWS: [Row; 11] = [
+// The low bits of an amount count. The highest byte is not active.
+const MOVED: &[Word] = &[
+    Word(ACTIVE_ROW, 0, 0x00ff_ffff),
+    Word(1, 0, 0x8101_ff80),
+    Word(2, 0, 0x0b07_0408),
+    Word(3, 0, 0xaaaa_aaaa),
+];
+
+const MOVED_DOWN: &[Word] = &[
+    Word(ACTIVE_ROW, 0, u32::MAX),
+    Word(1, 0, 0x807f_8180),
+    Word(2, 0, 0x0703_0701),
+];
+
+const MOVED_HALVES: &[Word] = &[
+    Word(ACTIVE_ROW, 0, u32::MAX),
+    Word(1, 0, 0x8001_f234),
+    Word(2, 0, 0x0014_fff1),
+];
+
+const MOVED_WORD: &[Word] = &[
+    Word(ACTIVE_ROW, 0, u32::MAX),
+    Word(1, 0, 0x8000_0001),
+    Word(2, 0, 0x0000_0024),
+];
+
+// No element is active.
+const NARROW_HALVES: &[Word] = &[Word(1, 0, 0x0080_007f)];
+
+const NARROW_WORD: &[Word] = &[Word(1, 0, 0x0000_8080)];
+
+const NARROW_BYTE: &[Word] = &[Word(1, 0, 0x0000_0080)];
+
+static ROWS: [Row; 27] = [
     Row {
         kind: Kind::Merge,
         rows: [2, 3, 4],
@@ -146,6 +209,105 @@ static ROWS: [Row; 11] = [
         before: SIGNED,
         after: &[Word(3, 0, 0x7f7f_0205)],
     },
+    Row {
+        kind: Kind::Sll,
+        rows: [1, 2, 3],
+        before: MOVED,
+        after: &[Word(3, 0, 0xaa80_f080)],
+    },
+    Row {
+        kind: Kind::SllHalf,
+        rows: [1, 2, 3],
+        before: MOVED_HALVES,
+        after: &[Word(3, 0, 0x0010_e468)],
+    },
+    Row {
+        kind: Kind::SllWord,
+        rows: [1, 2, 3],
+        before: MOVED_WORD,
+        after: &[Word(3, 0, 0x0000_0010)],
+    },
+    Row {
+        kind: Kind::Srl,
+        rows: [1, 2, 3],
+        before: MOVED_DOWN,
+        after: &[Word(3, 0, 0x010f_0140)],
+    },
+    Row {
+        kind: Kind::SrlHalf,
+        rows: [1, 2, 3],
+        before: MOVED_HALVES,
+        after: &[Word(3, 0, 0x0800_791a)],
+    },
+    Row {
+        kind: Kind::SrlWord,
+        rows: [1, 2, 3],
+        before: MOVED_WORD,
+        after: &[Word(3, 0, 0x0800_0000)],
+    },
+    // the sign comes in
+    Row {
+        kind: Kind::Sra,
+        rows: [1, 2, 3],
+        before: MOVED_DOWN,
+        after: &[Word(3, 0, 0xff0f_ffc0)],
+    },
+    Row {
+        kind: Kind::SraHalf,
+        rows: [1, 2, 3],
+        before: MOVED_HALVES,
+        after: &[Word(3, 0, 0xf800_f91a)],
+    },
+    Row {
+        kind: Kind::SraWord,
+        rows: [1, 2, 3],
+        before: MOVED_WORD,
+        after: &[Word(3, 0, 0xf800_0000)],
+    },
+    // amounts by themselves
+    Row {
+        kind: Kind::Sll,
+        rows: [2, 2, 3],
+        before: MOVED_DOWN,
+        after: &[Word(3, 0, 0x8018_8002)],
+    },
+    // no register changes
+    Row {
+        kind: Kind::SraRaw,
+        rows: [1, 2, 3],
+        before: MOVED_DOWN,
+        after: &[Word(ODD_ROW, 0, 0xff0f_ffc0), Word(3, 0, 0)],
+    },
+    Row {
+        kind: Kind::SrlRawHalf,
+        rows: [1, 2, 3],
+        before: MOVED_HALVES,
+        after: &[Word(EVEN_ROW, 0, 0x0800_791a), Word(3, 0, 0)],
+    },
+    Row {
+        kind: Kind::SraRawWord,
+        rows: [1, 2, 3],
+        before: MOVED_WORD,
+        after: &[Word(ODD_ROW, 0, 0xf800_0000), Word(3, 0, 0)],
+    },
+    Row {
+        kind: Kind::SextHalf,
+        rows: [1, 2, 3],
+        before: NARROW_HALVES,
+        after: &[Word(1, 0, 0xff80_007f)],
+    },
+    Row {
+        kind: Kind::SextWord,
+        rows: [1, 2, 3],
+        before: NARROW_WORD,
+        after: &[Word(1, 0, 0xffff_8080)],
+    },
+    Row {
+        kind: Kind::SextWordByte,
+        rows: [1, 2, 3],
+        before: NARROW_BYTE,
+        after: &[Word(1, 0, 0xffff_ff80)],
+    },
 ];
 
 // The list of the row's kind.
@@ -160,7 +322,7 @@ fn list_of(alloc: Global, row: &Row) -> Result<MicroBuf, Fail> {
         addend: to,
         to,
         sub: false,
-        mode: 0,
+        mode: ROUNDS_DOWN,
     };
     let mut buf = MicroBuf::new(alloc, ROOM)?;
     match row.kind {
@@ -174,6 +336,21 @@ fn list_of(alloc: Global, row: &Row) -> Result<MicroBuf, Fail> {
         Kind::Lt => emit_lt::<W8>(&mut buf, &at),
         Kind::Eq => emit_eq::<W8>(&mut buf, &at),
         Kind::Max => emit_max::<W8>(&mut buf, &at),
+        Kind::Sll => emit_sll::<W8>(&mut buf, &at),
+        Kind::SllHalf => emit_sll::<W16>(&mut buf, &at),
+        Kind::SllWord => emit_sll::<W32>(&mut buf, &at),
+        Kind::Srl => emit_srl::<W8>(&mut buf, &at),
+        Kind::SrlHalf => emit_srl::<W16>(&mut buf, &at),
+        Kind::SrlWord => emit_srl::<W32>(&mut buf, &at),
+        Kind::Sra => emit_sra::<W8>(&mut buf, &at),
+        Kind::SraHalf => emit_sra::<W16>(&mut buf, &at),
+        Kind::SraWord => emit_sra::<W32>(&mut buf, &at),
+        Kind::SraRaw => emit_sra_raw::<W8>(&mut buf, &at),
+        Kind::SrlRawHalf => emit_srl_raw::<W16>(&mut buf, &at),
+        Kind::SraRawWord => emit_sra_raw::<W32>(&mut buf, &at),
+        Kind::SextHalf => emit_sext::<W16>(&mut buf, &at, BYTE),
+        Kind::SextWord => emit_sext::<W32>(&mut buf, &at, HALF),
+        Kind::SextWordByte => emit_sext::<W32>(&mut buf, &at, BYTE),
     }
     Ok(buf)
 }
