@@ -1,6 +1,6 @@
 //! What a line of the input asks.
 ghost use Rattle.std.specs.Prelude.{◌≡◌, option_map};
-ghost use Rattle.library_probe.specs.Forms.{asked_by, place_by, question_by, texts_of, view_of, word_by};
+ghost use Rattle.library_probe.specs.Forms.{asked_by, listed_by, place_by, question_by, texts_of, view_of};
 
 use crate::numbers::{byte_of, decimal_of, hexadecimal_of};
 use crate::words::Question;
@@ -24,8 +24,6 @@ pub(crate) enum Asked<'a> {
     },
     /// What a vector word means, and whether it is legal.
     Word(Question),
-    /// The listing of a word.
-    Text(u32),
 }
 
 // The place of the rows of two operands and of a result, where these are all the words.
@@ -61,14 +59,18 @@ fn question_in(words: &[&str]) -> Option<Question>
     })
 }
 
-// A word, where it is all the words.
-fn word_in(words: &[&str]) -> Option<u32>
-    ensures { result ≡ word_by (texts_of words.now) }
+/// The word whose listing the words of a line ask, or `None` where they have another form.
+pub(crate) fn listed_word(words: &[&str]) -> Option<u32>
+    ensures { result ≡ listed_by (texts_of words.now) }
 {
-    let [word] = words else {
+    let [first, word] = words else {
         return None;
     };
-    hexadecimal_of(word)
+    if *first == TEXT {
+        hexadecimal_of(word)
+    } else {
+        None
+    }
 }
 
 /// What the words of a line ask, or `None` where they have another form.
@@ -82,7 +84,6 @@ pub(crate) fn asked_in<'a>(words: &[&'a str]) -> Option<Asked<'a>>
             at: place_in(rows)?,
         }),
         [first, rest @ ..] if *first == WORD => Some(Asked::Word(question_in(rest)?)),
-        [first, rest @ ..] if *first == TEXT => Some(Asked::Text(word_in(rest)?)),
         _ => None,
     }
 }

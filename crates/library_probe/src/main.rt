@@ -20,7 +20,7 @@ mod numbers;
 mod told;
 mod words;
 
-use lines::{Asked, asked_in};
+use lines::{Asked, asked_in, listed_word};
 use std::io;
 use std::io::{BufRead, BufReader, BufWriter, Write};
 use told::{NO_FORM, told_of};
@@ -37,8 +37,10 @@ fn main(rt: HostRuntime) -> io::Result<()> {
                 out.write_all(told_of(alloc, name, width, &at)?.as_bytes())?;
             }
             Some(Asked::Word(question)) => writeln!(out, "{}", answer_to(&question))?,
-            Some(Asked::Text(word)) => writeln!(out, "{}", listed(word).as_str())?,
-            None => out.write_all(NO_FORM.as_bytes())?,
+            None => match listed_word(&words) {
+                Some(word) => writeln!(out, "{}", listed(word).as_str())?,
+                None => out.write_all(NO_FORM.as_bytes())?,
+            },
         }
     }
     out.flush()
