@@ -1,4 +1,4 @@
-use Rattle.std.proofs.Common.{◌≡◌, ℕ, ◌-◌, ◌<◌, ◌≤◌, true, false, ltb, ⊥, sym, ◌∙◌, append-nil, arith, inl, inr, ⊎_elim}
+use Rattle.std.proofs.Common.{◌≡◌, ℕ, ◌-◌, ◌<◌, ◌≤◌, true, false, ltb, sym, ◌∙◌, append-nil, arith, inl, inr, ⊎_elim}
 use Rattle.std.proofs.lemmas.Bool.{cases_lt, lt-ltb, ltb-true}
 use Rattle.micro_ir.proofs.PieceLists.{ups-none}
 use Rattle.micro_ir.specs.WorkRows.{IsOperandRow}
@@ -14,9 +14,9 @@ operand-row r (inr (inr (inr (inr is)))) = omega arith
 
 -- elements that are not wider have no bits above those of the numbers
 none-above : (v w : ℕ) → ltb v w ≡ false → w - v ≡ 0
-none-above v w no =
+none-above v w narrow =
     ⊎_elim
-    (λ (l : v < w). let x : true ≡ false = sym (lt-ltb v w l) ∙ no in absurd (cc))
+    (λ (l : v < w). let x : true ≡ false = sym (lt-ltb v w l) ∙ narrow in absurd (cc))
     (λ (l : w ≤ v). omega arith)
     (cases_lt v w)
 
