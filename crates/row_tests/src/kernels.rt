@@ -74,7 +74,10 @@ fn kernels_take_all_words_and_no_more(rt: HostRuntime) -> Result<(), Fail> {
 fn bits_of_all_words_are_counted(rt: HostRuntime) -> Result<(), Fail> {
     let words = [RIGHT; MOST_WORDS];
     for len in LENGTHS {
-        assert!(rt; len <= MOST_WORDS && count_words(&words[..len]) as usize == 2 * len, "{len} words");
+        assert!(rt;
+            len <= MOST_WORDS && count_words(&words[..len]) as usize == 2 * len,
+            "{len} words"
+        );
     }
     Ok(())
 }
