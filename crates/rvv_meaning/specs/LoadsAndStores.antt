@@ -9,8 +9,9 @@ use Rattle.bit_laws.specs.Lists.{tabulate}
 use Rattle.element_ops.specs.Elements.{element_of, group_byte, mask_bit_of, with_elements}
 use Rattle.element_ops.specs.Places.{Place, prestart, active, masked_off, tail, place_of, agnostic_value, is_agnostic}
 use Rattle.guest_mem.specs.Pages.{Pages, first_bad, loaded, written}
-use Rattle.rvv_decode.specs.declared.instruction.MemoryOp.{MemoryOp}
 use Rattle.rvv_decode.specs.declared.instruction.VInstr.{VInstr}
+use Rattle.rvv_decode.specs.declared.instruction.VOp.{VOp}
+use Rattle.rvv_decode.specs.declared.instruction.VOp.TheVariants.{Memory}
 use Rattle.vtype_cfg.specs.declared.configuration.Cfg.{Cfg}
 use Rattle.rvv_meaning.specs.Elementwise.{size_of}
 use Rattle.rvv_meaning.specs.Scalar.Accesses.{to_read, to_write}
@@ -176,7 +177,15 @@ stores c t base v pages = record {
   fault = option_map (with_address (bad c t base v to_write pages)) (trapped t (stop c t base v to_write pages));
 }
 
--- what an instruction leaves: a load reads pages, and a store writes them
-unfoldable pub outcome_of : MemoryOp → VInstr → Cfg → (base stride : ℕ) → List (List ℕ) → Pages → Outcome
-outcome_of op i c base stride v pages =
+-- an instruction that is no load and no store leaves all as it is
+abbrev pub unchanged : Cfg → List (List ℕ) → Pages → Outcome
+unchanged c v pages = record { cfg = c; vectors = λ ones. v; pages = pages; fault = None }
+
+-- what an instruction leaves that finds a base and a stride in scalar registers: a load reads pages, and a store writes them
+abbrev pub outcome_by : VOp → VInstr → Cfg → (base stride : ℕ) → List (List ℕ) → Pages → Outcome
+outcome_by (Memory op) i c base stride v pages =
     if is_store op then stores c (access_of op i c stride) base v pages else loads c (access_of op i c stride) base v pages
+outcome_by op i c base stride v pages = unchanged c v pages
+
+unfoldable pub outcome : VInstr → Cfg → (base stride : ℕ) → List (List ℕ) → Pages → Outcome
+outcome i c base stride v pages = outcome_by i.op i c base stride v pages

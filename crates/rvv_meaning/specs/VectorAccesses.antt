@@ -3,6 +3,8 @@ use Rattle.std.specs.Prelude.{ℕ, ◌+◌, ◌*◌, ◌/◌, Bool, true, false,
 use Rattle.rvv_decode.specs.declared.instruction.MemoryOp.{MemoryOp}
 use Rattle.rvv_decode.specs.declared.instruction.MemoryOp.TheVariants.{LoadUnitStride, LoadWholeRegister, LoadMask, LoadFaultOnlyFirst, LoadIndexedUnordered, LoadStrided, LoadIndexedOrdered, StoreUnitStride, StoreWholeRegister, StoreMask, StoreIndexedUnordered, StoreStrided, StoreIndexedOrdered}
 use Rattle.rvv_decode.specs.declared.instruction.VInstr.{VInstr}
+use Rattle.rvv_decode.specs.declared.instruction.VOp.{VOp}
+use Rattle.rvv_decode.specs.declared.instruction.VOp.TheVariants.{Memory}
 use Rattle.vtype_cfg.specs.Groups.{emul_of}
 use Rattle.vtype_cfg.specs.declared.configuration.Cfg.{Cfg}
 use Rattle.rvv_meaning.specs.declared.accesses.Offset.{Offset}
@@ -53,6 +55,15 @@ is_store StoreMask = true
 is_store StoreIndexedUnordered = true
 is_store StoreStrided = true
 is_store StoreIndexedOrdered = true
+
+-- loads, and stores
+abbrev pub reads_memory : VOp → Bool
+reads_memory (Memory op) = not (is_store op)
+reads_memory op = false
+
+abbrev pub writes_memory : VOp → Bool
+writes_memory (Memory op) = is_store op
+writes_memory op = false
 
 -- the registers of a group of elements of so many bits
 abbrev pub group_count : Cfg → ℕ → ℕ
