@@ -15,7 +15,6 @@ use Rattle.cam_chain.specs.Views.{register_byte, register_of, registers_of, Keep
 use Rattle.element_ops.specs.Elements.{IsSize, AreRegisters, byte_at, group_byte, element_of, mask_bit_of, with_element, with_bytes, place_in_group}
 use Rattle.element_ops.proofs.Bytes.{byte-bits, little-bytes}
 
-
 -- ---- the registers that slices hold
 
 pub length-registers_of : (s : Slices) → length (registers_of s) ≡ 32

@@ -12,7 +12,7 @@ use Rattle.vtype_cfg.specs.Classes.{Class, load, store, indexed_load, indexed_st
 use Rattle.vtype_cfg.specs.Legality.{has_setting, has_legal_eew, has_legal_emul, is_aligned, fits_registers, is_placed, may_start_at, if_there, are_placed, may_overlap_by_width, overlaps_legally, spares_mask, writes_legally, obeys_rules, is_legal}
 use Rattle.legal_groups.specs.Facts.{registers_for, SparesMask, FieldGroups, IndexBeside, IndexRoom, WholeRoom, MaskRoom, LegalAccessLaw}
 use Rattle.legal_groups.proofs.Widths.{in_force, sew-width}
-use Rattle.legal_groups.proofs.Overlaps.{same_or_apart, apart_or_allowed}
+use Rattle.legal_groups.proofs.Overlaps.{same_or_apart}
 use Rattle.legal_groups.proofs.Laws.{in_setting, obeyed}
 
 -- ---- operands
@@ -35,12 +35,13 @@ some-group : (fields n : ℕ) → 0 < fields → 0 < fields * max 1 n
 some-group fields n some = let m : 1 * max 1 n ≤ fields * max 1 n = mul-le-mul_right (max 1 n) some in omega arith
 
 -- groups that spare the mask are not at v0
-spared : (vm : Bool) (vt : Vtype) (fields w vd : ℕ) → 0 < fields → spares_mask load vm (groups_at vt fields w vd) ≡ true → vm ≡ false → 0 < vd
-unfolding spares_mask registers may_write_mask
-spared vm vt fields w zero some spare masked =
-    let t : nat_lt 0 (0 + fields * registers_for vt w) ≡ true = lt-ltb 0 (0 + fields * registers_for vt w) (some-group fields (emul_of vt w / 8) some) in
-    absurd (false≢true (rw (masked, t) at spare))
-spared vm vt fields w (suc vd) some spare masked = omega arith
+spared : (class : Class) (vm : Bool) (vt : Vtype) (fields w vd : ℕ) → may_write_mask class ≡ false → 0 < fields → spares_mask class vm (groups_at vt fields w vd) ≡ true → vm ≡ false → 0 < vd
+unfolding spares_mask registers
+spared class vm vt fields w zero never some spare masked =
+    let n : 0 < fields * registers_for vt w = some-group fields (emul_of vt w / 8) some in
+    let t : nat_lt 0 (0 + fields * registers_for vt w) ≡ true = lt-ltb 0 (0 + fields * registers_for vt w) (omega arith) in
+    absurd (false≢true (rw (masked, never, t) at spare))
+spared class vm vt fields w (suc vd) never some spare masked = omega arith
 
 field-groups : (class : Class) (i : VInstr) (vt : Vtype) (d : ℕ) → needs_no_setting class ≡ false → IsTrue (is_vill_or_supported vt) → has_setting class vt ≡ true → is_placed (groups_at vt i.nf d i.vd) ≡ true → FieldGroups i vt d
 field-groups class i vt d needs setting has is =
@@ -128,20 +129,19 @@ index-beside i vt some dest index legally = by i.nf refl
     by zero e = absurd (omega arith)
     by (suc zero) e =
         let may : (not (overlap (registers (groups_at vt 1 vt.sew i.vd)) (registers (groups_at vt 1 i.eew i.vs2))) || may_overlap_by_width (groups_at vt 1 vt.sew i.vd) (groups_at vt 1 i.eew i.vs2)) ≡ true = rw e at legally in
-        rw e (
         ⊎_elim
         (λ (off : not (overlap (registers (groups_at vt 1 vt.sew i.vd)) (registers (groups_at vt 1 i.eew i.vs2))) ≡ true).
-        ⊎_elim (λ (l : i.vs2 + registers_for vt i.eew ≤ i.vd). inl l) (λ (l : i.vd + 1 * registers_for vt vt.sew ≤ i.vs2). inr (inl l)) (none-shared vt 1 vt.sew i.vd i.eew i.vs2 (not-true _ off)))
+        ⊎_elim (λ (l : i.vs2 + registers_for vt i.eew ≤ i.vd). inl l) (λ (l : i.vd + 1 * registers_for vt vt.sew ≤ i.vs2). inr (inl (rw e l))) (none-shared vt 1 vt.sew i.vd i.eew i.vs2 (not-true _ off)))
         (λ (on : may_overlap_by_width (groups_at vt 1 vt.sew i.vd) (groups_at vt 1 i.eew i.vs2) ≡ true).
-        one (one-beside vt i.vd i.eew i.vs2 (lies _ (rw e at dest)) (lies _ index) on))
-        (or_cases _ _ may))
+        one (one-beside vt i.vd i.eew i.vs2 (lies (groups_at vt 1 vt.sew i.vd) (rw e at dest)) (lies (groups_at vt 1 i.eew i.vs2) index) on))
+        (or_cases _ _ may)
       where
         one : ((i.vs2 + registers_for vt i.eew ≤ i.vd) ⊎ ((i.vd + 1 * registers_for vt vt.sew ≤ i.vs2) ⊎ (((i.vs2 ≡ i.vd) × (vt.sew ≤ i.eew)) ⊎ ((i.vs2 + registers_for vt i.eew ≡ i.vd + registers_for vt vt.sew) × (i.eew ≤ vt.sew) × (8 ≤ emul_of vt i.eew)))))
-            → (i.vs2 + registers_for vt i.eew ≤ i.vd) ⊎ ((i.vd + 1 * registers_for vt vt.sew ≤ i.vs2) ⊎ (((1 ≡ 1) × (i.vs2 ≡ i.vd) × (vt.sew ≤ i.eew)) ⊎ ((1 ≡ 1) × (i.vs2 + registers_for vt i.eew ≡ i.vd + registers_for vt vt.sew) × (i.eew ≤ vt.sew) × (8 ≤ emul_of vt i.eew))))
+            → IndexBeside i vt
         one (inl l) = inl l
-        one (inr (inl l)) = inr (inl l)
-        one (inr (inr (inl h))) = inr (inr (inl (refl, h.0, h.1)))
-        one (inr (inr (inr h))) = inr (inr (inr (refl, h.0, h.1, h.2)))
+        one (inr (inl l)) = inr (inl (rw e l))
+        one (inr (inr (inl h))) = inr (inr (inl (e, h.0, h.1)))
+        one (inr (inr (inr h))) = inr (inr (inr (e, h.0, h.1, h.2)))
     by (suc (suc n)) e =
         let off : not (overlap (registers (groups_at vt i.nf vt.sew i.vd)) (registers (groups_at vt 1 i.eew i.vs2))) ≡ true = nowhere-alone (nat_lt 1 i.nf) (rw e (lt-ltb 1 (suc (suc n)) (omega arith))) legally in
         ⊎_elim (λ (l : i.vs2 + registers_for vt i.eew ≤ i.vd). inl l) (λ (l : i.vd + i.nf * registers_for vt vt.sew ≤ i.vs2). inr (inl l)) (none-shared vt i.nf vt.sew i.vd i.eew i.vs2 (not-true _ off))
@@ -154,11 +154,11 @@ index-beside i vt some dest index legally = by i.nf refl
 -- ---- the law
 
 pub legal_access_law : LegalAccessLaw
-unfolding row_of needs_no_setting
+unfolding row_of needs_no_setting may_write_mask
 legal_access_law = record {
   loads = λ i vt vstart setting legal class some.
       let r = obeyed load i vt vstart (groups_at vt i.nf i.eew i.vd) legal class refl in
-      (spared i.vm vt i.nf i.eew i.vd some r.spares, field-groups load i vt i.eew refl setting r.setting r.place);
+      (spared load i.vm vt i.nf i.eew i.vd refl some r.spares, field-groups load i vt i.eew refl setting r.setting r.place);
   stores = λ i vt vstart setting legal class some.
       let r = stored store i vt vstart legal class in
       field-groups store i vt i.eew refl setting r.setting r.data_placed;
@@ -167,7 +167,7 @@ legal_access_law = record {
       let x = r.sources.vs2 i.eew refl in
       let p = lies (groups_at vt 1 i.eew i.vs2) x.0 in
       let room : i.vs2 + 1 * registers_for vt i.eew ≤ 32 = p.room in (
-        (spared i.vm vt i.nf vt.sew i.vd some (spares-alike i vt r.spares), field-groups indexed_load i vt vt.sew refl setting r.setting r.place),
+        (spared indexed_load i.vm vt i.nf vt.sew i.vd refl some r.spares, field-groups indexed_load i vt vt.sew refl setting r.setting r.place),
         (omega arith, index-beside i vt some r.place x.0 x.1),
       );
   indexed_stores = λ i vt vstart setting legal class some.
@@ -184,6 +184,3 @@ legal_access_law = record {
       let r = stored mask_store i vt vstart legal class in
       mask-room mask_store i vt refl r.setting r.data_placed;
 }
-  where
-    spares-alike : (i : VInstr) (vt : Vtype) → spares_mask indexed_load i.vm (groups_at vt i.nf vt.sew i.vd) ≡ true → spares_mask load i.vm (groups_at vt i.nf vt.sew i.vd) ≡ true
-    spares-alike i vt h = h
