@@ -37,7 +37,6 @@ impl Case {
         let is_read = match words {
             [first, rest @ ..] if *first == "columns" => self.begin(alloc, rest)?,
             [first, rest @ ..] if *first == "row" => set_row(&mut self.chain, rest).is_some(),
-            [first] if *first == "end" => true,
             _ => self.push(words),
         };
         self.is_sound = self.is_sound && is_read;

@@ -20,6 +20,9 @@ use case::Case;
 use std::io;
 use std::io::{BufRead, BufReader, BufWriter, Write};
 
+// The line that ends a case.
+const END: &str = "end";
+
 fn main(rt: HostRuntime) -> io::Result<()> {
     let alloc = rt.alloc();
     let mut out = BufWriter::new(alloc, rt.stdout())?;
@@ -27,9 +30,10 @@ fn main(rt: HostRuntime) -> io::Result<()> {
     for line in BufReader::new(alloc, rt.stdin())?.lines(alloc) {
         let line = line?;
         let words: Vec<&str> = line.as_str().split_whitespace().collect(alloc)?;
-        case.take_line(alloc, &words)?;
-        if words.as_slice() == ["end"] {
+        if line.as_str() == END {
             out.write_all(case.report(alloc)?.as_bytes())?;
+        } else {
+            case.take_line(alloc, &words)?;
         }
     }
     out.flush()

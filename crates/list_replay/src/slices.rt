@@ -48,8 +48,8 @@ pub(crate) fn set_row(chain: &mut Chain, words: &[&str]) -> Option<()> {
 fn push_bits(text: &mut String, row: &Row) -> Result<(), AllocError> {
     let words = row.words();
     for byte in 0..row.len().div_ceil(BYTE_BITS) {
-        let word = words[(byte / BYTES_IN_WORD) as usize];
-        let bits = (word >> (BYTE_BITS * (byte % BYTES_IN_WORD))) as u8;
+        let bytes = words[(byte / BYTES_IN_WORD) as usize].to_le_bytes();
+        let bits = bytes[(byte % BYTES_IN_WORD) as usize];
         write!(text, "{bits:02x}")?;
     }
     text.push('\n')

@@ -1,6 +1,7 @@
 -- Micro-operations, their replay, and table steps.
 pub mod BufValue
 pub mod Listing
+pub mod ControlNumbers
 pub mod Replay
 pub mod Folding
 pub mod Steps

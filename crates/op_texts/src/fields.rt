@@ -6,6 +6,7 @@ pub(crate) const DECIMAL: u32 = 10;
 
 /// Fields, which are read one after another. Where one is missing or has another form it is read as 0, and they are not
 /// sound.
+#[derive(Drop)]
 pub(crate) struct Fields<'a> {
     words: &'a [&'a str],
     is_sound: bool,
