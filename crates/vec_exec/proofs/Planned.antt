@@ -1,13 +1,12 @@
 -- What a plan writes is the program in the frame; what legality says of its rows; and what the program does and costs.
-use Rattle.std.proofs.Common.{◌≡◌, inl, inr, ℕ, zero, suc, ◌+◌, ◌*◌, ◌/◌, ◌<◌, ◌≤◌, Bool, true, false, ◌&&◌, not, cond, eqb, List, ◌++◌, Option, Some, None, refl, sym, ◌∙◌, ap, subst, arith, ⊎_elim}
-use Rattle.std.specs.Prelude.{IsTrue, is_some}
+use Rattle.std.proofs.Common.{◌≡◌, inl, inr, ℕ, zero, suc, ◌+◌, ◌*◌, ◌/◌, ◌<◌, ◌≤◌, Bool, true, false, ◌&&◌, not, cond, eqb, List, ◌++◌, Some, refl, sym, ◌∙◌, ap, arith, ⊎_elim}
+use Rattle.std.specs.Prelude.{IsTrue}
 use Rattle.std.proofs.lemmas.Bool.{and_parts, leb-true, cases_Bool}
 use Rattle.bit_rows.specs.Slices.{Slices, blank}
 use Rattle.cam_chain.specs.Views.{registers_of}
 use Rattle.micro_ir.specs.declared.op.MicroOp.{MicroOp}
-use Rattle.micro_ir.specs.Kinds.{Realises, Tells}
-use Rattle.micro_ir.specs.Measures.{Measured}
-use Rattle.micro_ir.specs.Replay.{replay, tally, clips, AllInRange}
+use Rattle.micro_ir.specs.Kinds.{Realises}
+use Rattle.micro_ir.specs.Replay.{replay, tally, AllInRange}
 use Rattle.micro_ir.specs.WorkRows.{IsOperandRow}
 use Rattle.micro_ir.proofs.Lists.{clips-none}
 use Rattle.micro_ir.proofs.Valued.{realises-same, tells-same}
@@ -16,14 +15,13 @@ use Rattle.rvv_decode.specs.declared.instruction.Form.TheVariants.{V, X, I}
 use Rattle.rvv_decode.specs.declared.instruction.VInstr.{VInstr}
 use Rattle.vtype_cfg.specs.declared.configuration.Cfg.{Cfg}
 use Rattle.vtype_cfg.specs.Settings.{is_legal_vlen, is_vill_or_supported, is_valid, vlmax}
-use Rattle.vtype_cfg.specs.Classes.{Class, class_of, compare}
+use Rattle.vtype_cfg.specs.Classes.{class_of, compare}
 use Rattle.vtype_cfg.specs.Legality.{is_legal}
 use Rattle.vtype_cfg.proofs.Lengths.{vlen_from, vlen_words}
 use Rattle.legal_groups.specs.Facts.{IsElementWidth, group_count, SameOrApart, SewGroups, MaskGroups}
 use Rattle.legal_groups.proofs.Groups.{legal_plain_law, legal_move_law, legal_compare_law}
 use Rattle.rvv_meaning.specs.Elementwise.{Elementwise, registers_after, clips_below, clips as clips_elements}
 use Rattle.rvv_meaning.specs.Operations.{Operation, operation_for, on_elements, elements_at, reads_mask}
-use Rattle.rvv_meaning.specs.Vectors.{left_of}
 use Rattle.frame_laws.specs.Classes.Operands.{row_of}
 use Rattle.frame_laws.specs.Classes.Plain.{AllCompute}
 use Rattle.frame_laws.specs.Classes.Compared.{AllTell}
@@ -41,8 +39,8 @@ use Rattle.frame_meaning.proofs.Masks.{compare_meaning_law, compare_cost_law}
 use Rattle.vec_exec.specs.declared.recipes.Listed.{Listed}
 use Rattle.vec_exec.specs.declared.recipes.Recipe.{Recipe}
 use Rattle.vec_exec.specs.Recipes.{recipe_for, makes_bits, takes_row, value_of, truth_of, list_of, counts_of, length_of, Computes}
-use Rattle.vec_exec.specs.Programs.{reads, masked, list_for, kind_list, truth_list, element_program, mask_program, register_list, registers_list, mask_register_list, mask_registers_list, mask_fill_list, scalar_list, IsPlaced, IsMaskPlaced, IsMade, IsMaskMade, RealisesInstruction, prog, program_by, cost, cost_by}
-use Rattle.vec_exec.proofs.Fits.{Traits, Ignores, value_by, Means, Unmasked, Fits, never}
+use Rattle.vec_exec.specs.Programs.{reads, list_for, kind_list, truth_list, element_program, mask_program, register_list, registers_list, mask_register_list, mask_registers_list, mask_fill_list, scalar_list, IsPlaced, IsMaskPlaced, IsMade, IsMaskMade, RealisesInstruction, prog, program_by, cost, cost_by}
+use Rattle.vec_exec.proofs.Fits.{Traits, Ignores, value_by, Means, Unmasked, Fits}
 
 -- ---- what a valid configuration has
 

@@ -1,17 +1,17 @@
 -- The logarithm of a width.
-use Rattle.std.proofs.Common.{◌≡◌, ℕ, suc, ◌+◌, ◌*◌, ◌^◌, ◌%◌, ◌<◌, ◌≤◌, Bool, true, false, cond, eqb, refl, sym, ◌∙◌, arith}
+use Rattle.std.proofs.Common.{◌≡◌, ℕ, zero, suc, ◌+◌, ◌^◌, ◌%◌, ◌<◌, ◌≤◌, Bool, true, false, cond, eqb, refl, arith}
 use Rattle.std.proofs.Math.Nat.{mod-eq_of_lt}
 use Rattle.std.proofs.Math.Pow.{pow_mono}
 use Rattle.rvv_meaning.specs.Operations.{log2}
 
 -- a power of two from 8 on that divides 32 is one of the three widths
 pub log2-is : (w l : ℕ) → w ≡ 2 ^ l → 32 % w ≡ 0 → 8 ≤ w → log2 w ≡ l
-log2-is w 0 is divides least = absurd (omega (arith, is, least))
-log2-is w 1 is divides least = absurd (omega (arith, is, least))
-log2-is w 2 is divides least = absurd (omega (arith, is, least))
-log2-is w 3 is divides least = rw is refl
-log2-is w 4 is divides least = rw is refl
-log2-is w 5 is divides least = rw is refl
+log2-is w zero is divides least = absurd (omega (arith, is, least))
+log2-is w (suc zero) is divides least = absurd (omega (arith, is, least))
+log2-is w (suc (suc zero)) is divides least = absurd (omega (arith, is, least))
+log2-is w (suc (suc (suc zero))) is divides least = rw is refl
+log2-is w (suc (suc (suc (suc zero)))) is divides least = rw is refl
+log2-is w (suc (suc (suc (suc (suc zero))))) is divides least = rw is refl
 log2-is w (suc (suc (suc (suc (suc (suc l)))))) is divides least =
     let from : 6 ≤ l + 6 = omega arith in
     let more : 2 ^ 6 ≤ 2 ^ (l + 6) = pow_mono from in

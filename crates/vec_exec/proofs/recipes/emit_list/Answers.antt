@@ -1,6 +1,4 @@
 use Rattle.std.proofs.Common.{◌≡◌, Bool, true, false, ◌||◌, refl}
-use Rattle.gen_arith.specs.Kinds.{sum_takes_mask, truth_takes_mask}
-use Rattle.gen_logic.specs.Values.{takes_mask}
 use Rattle.vec_exec.specs.Recipes.{list_of, counts_of, length_of, Computes}
 use Rattle.vec_exec.proofs.Widths.{log2-is}
 use Rattle.vec_exec.proofs.recipes.emit_list.Goals as goal
