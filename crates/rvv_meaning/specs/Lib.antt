@@ -1,7 +1,6 @@
 -- What a guest program means.
 pub mod Vectors
 pub mod Elementwise
-pub mod Values
 pub mod Operations
 pub mod VectorAccesses
 pub mod LoadsAndStores
