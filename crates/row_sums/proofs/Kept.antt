@@ -1,5 +1,5 @@
 -- The rows that lists of steps write, and the rows of operands.
-use Rattle.std.proofs.Common.{◌≡◌, ◌≢◌, ℕ, ◌+◌, ◌<◌, ◌≤◌, Bool, true, false, not, ◌||◌, ◌&&◌, ltb, eqb, List, [], ◌∷◌, zero, suc, refl, sym, ap, ◌∙◌, arith, inl, inr, ◌⊎◌, ⊎_elim}
+use Rattle.std.proofs.Common.{◌≡◌, ◌≢◌, ℕ, ◌+◌, ◌<◌, ◌≤◌, Bool, true, false, not, ◌||◌, ◌&&◌, ltb, eqb, List, [], ◌∷◌, ◌++◌, zero, suc, refl, sym, ap, ◌∙◌, arith, inl, inr, ◌⊎◌, ⊎_elim}
 use Rattle.std.proofs.lemmas.Bool.{lt-ltb, ne_eqb, ltb-true, and_parts}
 use Rattle.micro_ir.specs.Steps.{Step, steps_on}
 use Rattle.micro_ir.specs.WorkRows.{IsOperandRow, scalar_row, left_row, right_row}
@@ -15,10 +15,18 @@ kept rows steps e r only off = λ k j. stays rows steps e r j only off k
 pub differ : (r x : ℕ) (rows : List ℕ) → is_among rows r ≡ false → is_among rows x ≡ true → r ≢ x
 differ r x rows off on q = let o = rw q at off in absurd (cc)
 
--- the rows of one list are rows of the other
-pub more-rows : (few many : List ℕ) (steps : List Step) → Within few steps → ((r : ℕ) → is_among few r ≡ true → is_among many r ≡ true) → Within many steps
-more-rows few many [] p h = tt
-more-rows few many (s ∷ ss) p h = (h s.out p.0, more-rows few many ss p.1 h)
+among-more : (few extra : List ℕ) (r : ℕ) → is_among few r ≡ true → is_among (few ++ extra) r ≡ true
+among-more [] extra r h = absurd (cc)
+among-more (x ∷ xs) extra r h = either (eqb r x) (is_among xs r) (is_among (xs ++ extra) r) h (among-more xs extra r)
+  where
+    either : (a b c : Bool) → a || b ≡ true → (b ≡ true → c ≡ true) → a || c ≡ true
+    either true b c h more = refl
+    either false b c h more = more h
+
+-- a list writes no other row, nor one of some more
+pub within-more : (few extra : List ℕ) (steps : List Step) → Within few steps → Within (few ++ extra) steps
+within-more few extra [] p = tt
+within-more few extra (s ∷ ss) p = (among-more few extra s.out p.0, within-more few extra ss p.1)
 
 -- ---- operands
 
