@@ -11,7 +11,7 @@ use Rattle.elf_load.specs.declared.faults.LoadFault.{LoadFault}
 use Rattle.elf_load.specs.declared.faults.LoadFault.TheVariants.{TooBig, TooShort, HeadersPastEnd, Dynamic, FileszAboveMemsz, SegmentPastFile, SegmentWraps, Overlap, OverStack, TooLarge, NoSegments, BadEntry}
 use Rattle.elf_load.specs.Fields.{number_at}
 use Rattle.elf_load.specs.Headers.{headers, segments, header_at}
-use Rattle.elf_load.specs.Layout.{stack_start, stack_end, top, highest_end, start_behind, heap_at, mapped_spans, spans, stack_span, segment_span, page_count}
+use Rattle.elf_load.specs.Layout.{stack_start, stack_end, top, highest_end, start_after, heap_at, mapped_spans, spans, stack_span, segment_span, page_count}
 use Rattle.elf_load.specs.Faults.{fault, faults, first_of, holds, is_none, page_limit}
 use Rattle.elf_load.proofs.Counting.{count_from, count_below-is, count_from-le, count_from-none, count_from-split}
 use Rattle.elf_load.proofs.FaultOrder.{NoneHolds}
@@ -62,15 +62,15 @@ meets-within page s some low high = grind (arith, nat_tests)
 -- what is laid out of a segment of so many bytes
 module _ (size : ℕ) (some : 84 ≤ size) (few : size ≤ 84 + 2 ^ 24)
   where
-    heap_from-is : start_behind (segment size ∷ []) ≡ (base + size + 4095) / 4096 * 4096
-    unfolding start_behind highest_end
+    heap_from-is : start_after (segment size ∷ []) ≡ (base + size + 4095) / 4096 * 4096
+    unfolding start_after highest_end
     heap_from-is = let e : max (base + size) 0 ≡ base + size = omega arith in rw e refl
 
     -- from the segment and the heap to the stack, and after the stack, nothing is mapped
     unmapped_between : (page : ℕ) → 8400 ≤ page → page < 0x7ff00 → is_mapped (mapped_spans (segment size ∷ [])) page ≡ false
     unfolding mapped_spans
     unmapped_between page low high =
-        let start = start_behind (segment size ∷ []) in
+        let start = start_after (segment size ∷ []) in
         let from = heap_from-is in
         or_from _ _ (meets-past page (segment_span (segment size)) (omega arith))
         (or_from _ _ (meets-before page stack_span (omega arith))
@@ -79,7 +79,7 @@ module _ (size : ℕ) (some : 84 ≤ size) (few : size ≤ 84 + 2 ^ 24)
     unmapped_after : (page : ℕ) → 0x80000 ≤ page → is_mapped (mapped_spans (segment size ∷ [])) page ≡ false
     unfolding mapped_spans
     unmapped_after page low =
-        let start = start_behind (segment size ∷ []) in
+        let start = start_after (segment size ∷ []) in
         let from = heap_from-is in
         or_from _ _ (meets-past page (segment_span (segment size)) (omega arith))
         (or_from _ _ (meets-past page stack_span (omega arith))
@@ -105,7 +105,7 @@ module _ (size : ℕ) (some : 84 ≤ size) (few : size ≤ 84 + 2 ^ 24)
     unfolding mapped_spans page_perms
     executable =
         let from = heap_from-is in
-        let start = start_behind (segment size ∷ []) in
+        let start = start_after (segment size ∷ []) in
         let here : meets 16 (segment_span (segment size)) ≡ true = meets-within 16 (segment_span (segment size)) (omega arith) (omega arith) (omega arith) in
         let heap : meets 16 (heap_at start) ≡ false = meets-before 16 (heap_at start) (omega arith) in
         rw (here, heap) refl
