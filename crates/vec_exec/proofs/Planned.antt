@@ -6,7 +6,7 @@ use Rattle.bit_rows.specs.Slices.{Slices, blank}
 use Rattle.cam_chain.specs.Views.{registers_of}
 use Rattle.micro_ir.specs.declared.op.MicroOp.{MicroOp}
 use Rattle.micro_ir.specs.Kinds.{Realises}
-use Rattle.micro_ir.specs.Replay.{replay, tally, AllInRange}
+use Rattle.micro_ir.specs.Replay.{replay, tally, AllInRange, clips, all_keep_control}
 use Rattle.micro_ir.specs.WorkRows.{IsOperandRow}
 use Rattle.micro_ir.proofs.Lists.{clips-none}
 use Rattle.micro_ir.proofs.Valued.{realises-same, tells-same}
@@ -39,8 +39,9 @@ use Rattle.frame_meaning.proofs.Masks.{compare_meaning_law, compare_cost_law}
 use Rattle.vec_exec.specs.declared.recipes.Listed.{Listed}
 use Rattle.vec_exec.specs.declared.recipes.Recipe.{Recipe}
 use Rattle.vec_exec.specs.Recipes.{recipe_for, makes_bits, takes_row, value_of, truth_of, list_of, counts_of, length_of, Computes}
-use Rattle.vec_exec.specs.Programs.{reads, list_for, kind_list, truth_list, element_program, mask_program, register_list, registers_list, mask_register_list, mask_registers_list, mask_fill_list, scalar_list, IsPlaced, IsMaskPlaced, IsMade, IsMaskMade, RealisesInstruction, prog, program_by, cost, cost_by}
+use Rattle.vec_exec.specs.Programs.{reads, list_for, kind_list, truth_list, element_program, mask_program, register_list, registers_list, mask_register_list, mask_registers_list, mask_fill_list, scalar_list, IsPlaced, IsMaskPlaced, IsMade, IsMaskMade, RealisesInstruction, prog, program_by, cost, cost_by, masked}
 use Rattle.vec_exec.proofs.Fits.{Traits, Ignores, value_by, Means, Unmasked, Fits}
+use Rattle.vec_exec.proofs.Keeping.{elements-keep, mask-keep}
 
 -- ---- what a valid configuration has
 
@@ -359,11 +360,11 @@ module _ (r : Recipe) (o : Operation) (i : VInstr) (c : Cfg) (x : ℕ) (f : Fits
   -- ---- together
 
   -- what a list leaves that leaves the registers of the meaning
-  realised : (ops : List MicroOp) → operation_for i.op ≡ Some o
+  realised : (ops : List MicroOp) → all_keep_control ops ≡ true → operation_for i.op ≡ Some o
       → ((s : Slices) → c.vlen ≡ 32 * s.columns → registers_of (replay ops s) ≡ registers_after c (on_elements i c x o) (registers_of s)) → RealisesInstruction i c x ops
   unfolding RealisesInstruction
-  realised ops is all s cleared long =
-      rw is (all s long, clips-none ops s ∙ sym (unclipped r o i c x f (registers_of s)))
+  realised ops keep is all s cleared long =
+      rw is (all s long, clips-none ops s keep ∙ sym (unclipped r o i c x f (registers_of s)))
 
   abbrev made_all : Type 0
   made_all = (g : ℕ) → g < group_count c.vtype → IsMade r i c g
@@ -380,7 +381,7 @@ module _ (r : Recipe) (o : Operation) (i : VInstr) (c : Cfg) (x : ℕ) (f : Fits
   elements-fine is numbers made small =
       let m = elements-measured numbers made small in
       record {
-        realises = rw (elements-program numbers) (realised (element_program r i c x) is (elements-realised numbers made small));
+        realises = rw (elements-program numbers) (realised (element_program r i c x) (elements-keep r i c x) is (elements-realised numbers made small));
         cost = rw (elements-program numbers) (m.cost ∙ sym (rw (bits-for r o i c x f ∙ numbers) refl));
         range = rw (elements-program numbers) m.range;
       }
@@ -394,7 +395,7 @@ module _ (r : Recipe) (o : Operation) (i : VInstr) (c : Cfg) (x : ℕ) (f : Fits
   bits-fine is bits made small =
       let m = bits-measured bits made small in
       record {
-        realises = rw (bits-program bits) (realised (mask_program r i c x) is (bits-realised bits made small));
+        realises = rw (bits-program bits) (realised (mask_program r i c x) (mask-keep r i c x) is (bits-realised bits made small));
         cost = rw (bits-program bits) (m.cost ∙ sym (rw (bits-for r o i c x f ∙ bits) refl));
         range = rw (bits-program bits) m.range;
       }
