@@ -1,5 +1,5 @@
 -- Steps from bit to bit; and the list that adds a bit to each element of a row, with what it makes of the rows.
-use Rattle.std.specs.Prelude.{◌≡◌, ◌≢◌, ℕ, ◌+◌, ◌*◌, ◌<◌, ◌≤◌, Bool, cond, zero, suc, List, [], ◌∷◌, ◌++◌, take, eqb}
+use Rattle.std.specs.Prelude.{◌≡◌, ◌≢◌, ℕ, ◌+◌, ◌*◌, ◌<◌, ◌≤◌, cond, zero, suc, List, [], ◌∷◌, ◌++◌, take}
 use Rattle.std.specs.Int.{from_bool}
 use lib.Dec.{ltb}
 use Rattle.bit_laws.specs.Numbers.{number, low}
@@ -9,7 +9,6 @@ use Rattle.micro_ir.specs.declared.tables.TableStep.{TableStep}
 use Rattle.micro_ir.specs.Replay.{replay}
 use Rattle.micro_ir.specs.Steps.{Step, fires, element}
 use Rattle.micro_ir.specs.Subs.{subs_of, between}
-use Rattle.micro_ir.specs.Tables.{values_of}
 use Rattle.micro_ir.specs.WorkRows.{carry_row, result_row}
 use Rattle.micro_ir.specs.Pieces.{above, clear}
 
