@@ -1,5 +1,5 @@
 -- Lists that leave a value in a work row and then commit it.
-use Rattle.std.proofs.Common.{◌≡◌, ◌≢◌, ℕ, ◌<◌, ◌≤◌, Bool, true, refl, ◌∙◌, arith, List}
+use Rattle.std.proofs.Common.{◌≡◌, ◌≢◌, ℕ, ◌+◌, ◌*◌, ◌<◌, ◌≤◌, Bool, true, refl, ◌∙◌, arith, List}
 use Rattle.bit_laws.specs.Numbers.{number, low}
 use Rattle.bit_laws.proofs.Numbers.{number-same}
 use Rattle.micro_ir.specs.Steps.{Step, steps_on, AllFit, micros, element}

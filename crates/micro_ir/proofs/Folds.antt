@@ -1,5 +1,5 @@
 -- The keys of a table find what its values do, whichever of its rows are one.
-use Rattle.std.proofs.Common.{◌≡◌, ◌≢◌, ℕ, ◌+◌, ◌<◌, ◌≤◌, ◌/◌, ◌%◌, Bool, true, false, cond, not, ◌&&◌, ◌||◌, eqb, ltb, leb, List, [], ◌∷◌, ◌++◌, map, length, Option, Some, None, refl, sym, ◌∙◌, ap, arith, ◌⊎◌, inl, inr, ⊎_elim, append_assoc, append-nil, zero, suc, take, drop, get_or, drop-cons, drop_of_length-le, length-take-le}
+use Rattle.std.proofs.Common.{◌≡◌, ◌≢◌, ℕ, ◌+◌, ◌<◌, ◌≤◌, ◌/◌, ◌%◌, Bool, true, false, cond, not, ◌&&◌, ◌||◌, eqb, ltb, leb, List, [], ◌∷◌, ◌++◌, map, length, Option, Some, None, refl, sym, ◌∙◌, ap, arith, ◌⊎◌, inl, inr, ⊎_elim, length-append, append_assoc, append-nil, zero, suc, take, drop, get_or, drop-cons, drop_of_length-le, length-take-le}
 use Rattle.std.specs.Prelude.{is_some}
 use mathlib.Core.Bool.{beq}
 use Rattle.std.proofs.lemmas.Bool.{cases_Bool, cases_eq, eqb-true, eq-eqb, ne_eqb, leb-true, le-leb, and_parts, ltb-true, lt-ltb}

@@ -1,5 +1,5 @@
 -- The list that adds a bit to each element of a row: what it makes of the rows, what it costs, and how it is written.
-use Rattle.std.proofs.Common.{◌≡◌, ◌≢◌, ℕ, ◌+◌, ◌-◌, ◌*◌, ◌/◌, ◌^◌, ◌<◌, ◌≤◌, Bool, true, false, cond, eqb, not, ◌||◌, List, [], ◌∷◌, ◌++◌, zero, suc, length, map, refl, sym, ◌∙◌, ap, arith, inr}
+use Rattle.std.proofs.Common.{◌≡◌, ◌≢◌, ℕ, ◌+◌, ◌-◌, ◌*◌, ◌/◌, ◌%◌, ◌^◌, ◌<◌, ◌≤◌, Bool, true, false, cond, eqb, not, ◌||◌, List, [], ◌∷◌, ◌++◌, zero, suc, length, map, refl, sym, ◌∙◌, ap, arith, inl, inr, ⊎_elim}
 use Rattle.std.specs.Int.{from_bool}
 use Rattle.std.proofs.lemmas.Bool.{ne_eqb, eq-eqb, and_parts, lt-ltb, le-ltb}
 use Rattle.std.proofs.lemmas.Nat.{mod-mul-add}
@@ -7,12 +7,14 @@ use Rattle.std.proofs.Math.Nat.{pow-suc, mod-eq_of_lt, div-one, mod-one}
 use Rattle.bit_laws.specs.Numbers.{number, low}
 use Rattle.bit_laws.proofs.Numbers.{number-lt, number-same}
 use Rattle.cam_chain.specs.KeyPairs.{keys_of, is_new_row}
+use Rattle.micro_ir.specs.declared.op.MicroOp.{MicroOp}
 use Rattle.micro_ir.specs.Effects.{Costs}
-use Rattle.micro_ir.specs.Steps.{fires, step_on, steps_on, AllFit, micro, micros, element}
+use Rattle.micro_ir.specs.Steps.{Step, fires, step_on, steps_on, AllFit, micro, micros, element}
 use Rattle.micro_ir.specs.WorkRows.{carry_row, result_row}
 use Rattle.micro_ir.specs.Pieces.{above, clear}
 use Rattle.micro_ir.specs.Increments.{ripple, digit, half_digits, half_carries, half_sums, increment, Increments}
 use Rattle.cam_chain.specs.KeyPairs.{are_keys}
+use Rattle.micro_ir.specs.Replay.{tally}
 use Rattle.micro_ir.specs.Measures.{counts}
 use Rattle.micro_ir.specs.Subs.{subs_of, between}
 use Rattle.micro_ir.specs.Tables.{moved_subs, table_list, rows_list, LeavesNone}

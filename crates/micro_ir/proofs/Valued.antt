@@ -1,5 +1,5 @@
 -- A list that computes a value computes each that is the same for numbers of w bits.
-use Rattle.std.proofs.Common.{◌≡◌, ℕ, ◌^◌, ◌<◌, Bool, List, ◌∙◌}
+use Rattle.std.proofs.Common.{◌≡◌, ℕ, ◌+◌, ◌*◌, ◌^◌, ◌<◌, ◌≤◌, Bool, List, ◌∙◌}
 use Rattle.bit_laws.specs.Numbers.{number, low}
 use Rattle.bit_laws.proofs.Numbers.{number-lt}
 use Rattle.micro_ir.specs.declared.op.MicroOp.{MicroOp}

@@ -1,5 +1,5 @@
 -- What the operations do that set the control number of the slices, or go by it.
-use Rattle.std.specs.Prelude.{ℕ, true}
+use Rattle.std.specs.Prelude.{ℕ, Bool, true}
 use Rattle.bit_laws.specs.Numbers.{bit_of}
 use Rattle.bit_rows.specs.Slices.{Slices}
 use Rattle.cam_chain.specs.Slices.{updated}

@@ -1,5 +1,5 @@
 -- What a list costs, how long it is, and that a chain can run it.
-use Rattle.std.specs.Prelude.{◌≡◌, ℕ, List, length}
+use Rattle.std.specs.Prelude.{◌≡◌, ℕ, ◌+◌, List, length}
 use Rattle.cam_chain.specs.declared.counts.Counts.{Counts}
 use Rattle.micro_ir.specs.declared.op.MicroOp.{MicroOp}
 use Rattle.micro_ir.specs.Replay.{AllInRange, tally}

@@ -1,4 +1,5 @@
 -- The programs as the code writes them, and what they do.
+pub mod Widths
 pub mod Fits
 pub mod Written
 pub mod Keeping

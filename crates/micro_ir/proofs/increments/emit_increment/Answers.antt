@@ -1,4 +1,4 @@
-use Rattle.std.proofs.Common.{◌≡◌, ℕ, ◌+◌, ◌<◌, ◌++◌, length, ◌∙◌, append_assoc, arith}
+use Rattle.std.proofs.Common.{◌≡◌, ℕ, ◌+◌, ◌<◌, [], ◌∷◌, ◌++◌, length, ◌∙◌, append_assoc, arith}
 use Rattle.micro_ir.specs.Steps.{micro}
 use Rattle.micro_ir.specs.Tables.{values_of, step_list}
 use Rattle.micro_ir.specs.WorkRows.{carry_row, result_row}
