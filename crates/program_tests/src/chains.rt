@@ -1,7 +1,7 @@
 //! Chains made of words, and lists that are carried out on them.
-use crate::ranges::{ROWS, are_in_range};
 use cam_chain::{Chain, Counts};
 use micro_ir::{Control, MicroBuf, replay};
+use op_texts::{ROWS, are_in_range};
 use std::alloc::Global;
 use std::test::Fail;
 

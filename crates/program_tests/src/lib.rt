@@ -16,6 +16,5 @@ mod pieces;
 #[cfg(test)]
 mod plans;
 #[cfg(test)]
-mod ranges;
 #[cfg(test)]
 mod runs;

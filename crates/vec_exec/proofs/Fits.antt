@@ -1,15 +1,19 @@
 -- The lists of each recipe compute the value, or tell the truth, of its operation.
-use Rattle.std.proofs.Common.{◌≡◌, ℕ, ◌+◌, ◌-◌, ◌*◌, ◌^◌, ◌<◌, ◌≤◌, Bool, true, false, ◌&&◌, not, cond, leb, ltb, Option, Some, None, refl, sym, ◌∙◌, ap, arith}
-use Rattle.std.specs.Prelude.{is_some}
-use Rattle.rvv_decode.specs.declared.instruction.OpiOp.TheVariants.{Vadd, Vsub, Vrsub, Vadc, Vsbc, Vmadc, Vmsbc, Vand, Vor, Vxor, Vmseq, Vmsne, Vmsltu, Vmslt, Vmsleu, Vmsle, Vmsgtu, Vmsgt, Vminu, Vmin, Vmaxu, Vmax, Vmerge, VmvV}
+use Rattle.std.proofs.Common.{◌≡◌, ℕ, ◌+◌, ◌^◌, Bool, true, false, cond, leb, ltb, Option, Some, None, refl, ap, arith}
+use Rattle.std.specs.Prelude.{is_some, ℤ, pos, negsuc}
+use Rattle.std.specs.Int.{int_shr}
+use Rattle.rvv_decode.specs.declared.instruction.OpiOp.TheVariants.{Vadd, Vsub, Vrsub, Vadc, Vsbc, Vmadc, Vmsbc, Vand, Vor, Vxor, Vsll, Vsrl, Vsra, Vmseq, Vmsne, Vmsltu, Vmslt, Vmsleu, Vmsle, Vmsgtu, Vmsgt, Vminu, Vmin, Vmaxu, Vmax, Vmerge, VmvV}
 use Rattle.rvv_decode.specs.declared.instruction.ConfigOp.{ConfigOp}
 use Rattle.rvv_decode.specs.declared.instruction.VOp.{VOp}
 use Rattle.rvv_decode.specs.declared.instruction.VOp.TheVariants.{Opi, Opm, Config, Memory}
 use Rattle.vtype_cfg.specs.Classes.{Class, class_of, opi_class, compare}
-use Rattle.rvv_meaning.specs.Operations.{Operation, operation_for}
+use Rattle.bit_laws.specs.Numbers.{low}
+use Rattle.bit_laws.specs.Signed.{signed}
+use Rattle.gen_shift.specs.Kinds as shifts
+use Rattle.rvv_meaning.specs.Operations.{low_int, log2, Operation, operation_for}
 use Rattle.rvv_meaning.specs.Vectors.{is_built}
 use Rattle.frame_meaning.specs.declared.Order.{Order}
-use Rattle.frame_meaning.specs.declared.Order.TheVariants.{Straight, Reversed, Second}
+use Rattle.frame_meaning.specs.declared.Order.TheVariants.{Straight, Reversed, Second, Exchanged}
 use Rattle.frame_meaning.specs.Laws.{IgnoresFirst}
 use Rattle.frame_meaning.specs.Masks.{IsTruth}
 use Rattle.frame_meaning.specs.Shapes.{class_in}
@@ -64,6 +68,7 @@ Ignores _ o = Unit {0}
 abbrev pub value_by : Order → Operation → (w mode a b d : ℕ) → Bool → ℕ
 value_by Straight o w mode a b d m = o.value w mode a b (cond o.takes_old d 0) m
 value_by Reversed o w mode a b d m = o.value w mode b a (cond o.takes_old d 0) m
+value_by Exchanged o w mode a b d m = o.value w mode d b (cond o.takes_old a 0) m
 value_by Second o w mode a b d m = o.value w mode a b (cond o.takes_old d 0) m
 
 -- the list with the mask computes the value, or tells the truth
@@ -90,6 +95,11 @@ FitsIf op (Some r) (Some o) = Fits op r o
 FitsIf op (Some r) None = ⊥
 FitsIf op None (Some o) = ⊥
 
+-- what is left of a number with a sign, in the words of the list and of the meaning
+same-low : (w : ℕ) (z : ℤ) → shifts.low_int w z ≡ low_int w z
+same-low w (pos n) = refl
+same-low w (negsuc n) = refl
+
 fits : (op : VOp) → FitsIf op (recipe_for op) (operation_for op)
 unfolding recipe_for operation_for opi_class
 fits (Opi Vadd) = record { same = refl; ignores = tt; means = λ w mode a b d m. refl; unmasked = λ w a b d m. refl }
@@ -102,6 +112,9 @@ fits (Opi Vmsbc) = record { same = refl; ignores = tt; means = λ w mode a b d m
 fits (Opi Vand) = record { same = refl; ignores = tt; means = λ w mode a b d m. refl; unmasked = λ w a b d m. refl }
 fits (Opi Vor) = record { same = refl; ignores = tt; means = λ w mode a b d m. refl; unmasked = λ w a b d m. refl }
 fits (Opi Vxor) = record { same = refl; ignores = tt; means = λ w mode a b d m. refl; unmasked = λ w a b d m. refl }
+fits (Opi Vsll) = record { same = refl; ignores = tt; means = λ w mode a b d m. refl; unmasked = λ w a b d m. refl }
+fits (Opi Vsrl) = record { same = refl; ignores = tt; means = λ w mode a b d m. refl; unmasked = λ w a b d m. refl }
+fits (Opi Vsra) = record { same = refl; ignores = tt; means = λ w mode a b d m. same-low w (int_shr (signed w a) (low (log2 w) b)); unmasked = λ w a b d m. refl }
 fits (Opi Vmseq) = record { same = refl; ignores = tt; means = λ w mode a b d m. refl; unmasked = λ w a b m. refl }
 fits (Opi Vmsne) = record { same = refl; ignores = tt; means = λ w mode a b d m. refl; unmasked = λ w a b m. refl }
 fits (Opi Vmsltu) = record { same = refl; ignores = tt; means = λ w mode a b d m. refl; unmasked = λ w a b m. refl }

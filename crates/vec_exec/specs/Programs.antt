@@ -1,5 +1,5 @@
 -- The program of an instruction, what it costs, and when a list realises an instruction.
-use Rattle.std.specs.Prelude.{◌≡◌, ◌⊎◌, ◌<◌, ◌%◌, ◌^◌, ℕ, zero, suc, ◌+◌, ◌*◌, ◌/◌, Bool, true, false, cond, ◌&&◌, not, List, [], ◌∷◌, ◌++◌, Option, Some, None, is_some}
+use Rattle.std.specs.Prelude.{◌≡◌, ◌<◌, ℕ, zero, suc, ◌+◌, ◌*◌, ◌/◌, Bool, true, false, cond, ◌&&◌, not, List, [], ◌∷◌, ◌++◌, Option, Some, None}
 use Rattle.std.specs.Option.{option_map_or}
 use Rattle.bit_laws.specs.Numbers.{low}
 use Rattle.bit_rows.specs.Slices.{Slices}
@@ -106,7 +106,7 @@ mask_fill_list c to = cond (is_ones c.policy) (micros c.vtype.sew (fill_step c.v
 
 -- the list of register g of the destination, and that of register g of the operands of a mask
 abbrev pub kind_list : Recipe → VInstr → Cfg → (g : ℕ) → List MicroOp
-kind_list r i c g = list_of (list_for r i) c.vtype.sew (row_of (operands_in r.order i).a g) (row_of (operands_in r.order i).b g) (i.vd + g) (i.vd + g)
+kind_list r i c g = list_of (list_for r i) c.vtype.sew (row_of (operands_in r.order i).a g) (row_of (operands_in r.order i).b g) (row_of (operands_in r.order i).addend g) (i.vd + g)
 
 abbrev pub truth_list : Recipe → VInstr → Cfg → (g : ℕ) → List MicroOp
 truth_list r i c g = list_of (list_for r i) c.vtype.sew (row_of (compare_operands i).a g) (row_of (compare_operands i).b g) i.vd i.vd
@@ -178,6 +178,7 @@ pub record IsPlaced (r : Recipe) (i : VInstr) (g : ℕ) : Type 0 where
   pub vd : i.vd + g < 32
   pub a : IsOperandRow (row_of (operands_in r.order i).a g)
   pub b : IsOperandRow (row_of (operands_in r.order i).b g)
+  pub addend : IsOperandRow (row_of (operands_in r.order i).addend g)
 
 -- the rows of the operands of a mask are there
 pub record IsMaskPlaced (i : VInstr) (g : ℕ) : Type 0 where
@@ -205,7 +206,7 @@ RealisesInstruction i c x ops =
 
 -- What the list of register g computes, from the rows of its operands, and what it costs.
 pub record IsMade (r : Recipe) (i : VInstr) (c : Cfg) (g : ℕ) : Type 0 where
-  pub computes : Computes (list_for r i) c.vtype.sew (row_of (operands_in r.order i).a g) (row_of (operands_in r.order i).b g) (i.vd + g) (i.vd + g)
+  pub computes : Computes (list_for r i) c.vtype.sew (row_of (operands_in r.order i).a g) (row_of (operands_in r.order i).b g) (row_of (operands_in r.order i).addend g) (i.vd + g)
   pub cost : Measured (counts_of (list_for r i) c.vtype.sew) (length_of (list_for r i) c.vtype.sew) (kind_list r i c g)
 
 -- The same of a list that tells the truths of register g of the operands of a mask.

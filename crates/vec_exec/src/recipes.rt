@@ -10,6 +10,7 @@ use bit_laws::Width;
 use frame_meaning::Order;
 use gen_arith::{Choice, Sum, Truth, arith_length_law, emit_choice, emit_sum, emit_truth};
 use gen_logic::{Logic, emit_logic, logic_length_law};
+use gen_shift::{Shift, emit_shift, shift_length_law};
 use micro_ir::{MicroBuf, Place};
 use rvv_decode::{OpiOp, VOp};
 
@@ -20,6 +21,7 @@ pub(crate) enum Listed {
     Sums(Sum),
     Truths(Truth),
     Choices(Choice),
+    Shifts(Shift),
 }
 
 /// How an operation is computed: the list where the mask is no operand, and the one where it is; whether the mask is one
@@ -43,6 +45,19 @@ const fn of_two(list: Listed) -> Recipe
         takes_mask: false,
         order: Order::Straight,
         signed: true,
+    }
+}
+
+// The same where an immediate has no sign.
+const fn of_unsigned(list: Listed) -> Recipe
+    ensures { result ≡ record { plain = list; masked = list; takes_mask = false; order = Order.Straight; signed = false } }
+{
+    Recipe {
+        plain: list,
+        masked: list,
+        takes_mask: false,
+        order: Order::Straight,
+        signed: false,
     }
 }
 
@@ -91,6 +106,9 @@ pub(crate) fn recipe_of(op: VOp) -> Option<Recipe>
         OpiOp::Vand => of_two(Listed::Bits(Logic::And)),
         OpiOp::Vor => of_two(Listed::Bits(Logic::Or)),
         OpiOp::Vxor => of_two(Listed::Bits(Logic::Xor)),
+        OpiOp::Vsll => of_unsigned(Listed::Shifts(Shift::Sll)),
+        OpiOp::Vsrl => of_unsigned(Listed::Shifts(Shift::Srl)),
+        OpiOp::Vsra => of_unsigned(Listed::Shifts(Shift::Sra)),
         OpiOp::Vmseq => of_two(Listed::Truths(Truth::Eq)),
         OpiOp::Vmsne => of_two(Listed::Truths(Truth::Ne)),
         OpiOp::Vmsltu => of_two(Listed::Truths(Truth::Ltu)),
@@ -123,6 +141,7 @@ pub(crate) fn list_length_law()
 {
     logic_length_law();
     arith_length_law();
+    shift_length_law();
 }
 
 /// Appends a list.
@@ -130,6 +149,7 @@ pub(crate) fn list_length_law()
 pub(crate) fn emit_list<W: Width>(list: Listed, at: &Place, buf: &mut MicroBuf)
     requires a { IsOperandRow at.now.a }
     requires b { IsOperandRow at.now.b }
+    requires addend { IsOperandRow at.now.addend }
     requires to { at.now.to < 32 }
     requires room { length_of list W.BITS ≤ buf.old.spare }
     ensures ops { buf.new.ops ≡ buf.old.ops ++ list_of list W.BITS at.now.a at.now.b at.now.addend at.now.to }
@@ -142,5 +162,6 @@ pub(crate) fn emit_list<W: Width>(list: Listed, at: &Place, buf: &mut MicroBuf)
         Listed::Sums(kind) => emit_sum::<W>(buf, at, kind),
         Listed::Truths(kind) => emit_truth::<W>(buf, at, kind),
         Listed::Choices(kind) => emit_choice::<W>(buf, at, kind),
+        Listed::Shifts(kind) => emit_shift::<W>(buf, at, kind),
     }
 }
