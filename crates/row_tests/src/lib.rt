@@ -8,6 +8,8 @@ mod chains;
 #[cfg(test)]
 mod keys;
 #[cfg(test)]
+mod moves;
+#[cfg(test)]
 mod networks;
 #[cfg(test)]
 mod rows;
