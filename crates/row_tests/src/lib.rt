@@ -9,6 +9,8 @@ mod chains;
 mod kernels;
 mod keys;
 #[cfg(test)]
+mod moves;
+#[cfg(test)]
 mod networks;
 #[cfg(test)]
 mod rows;

@@ -73,7 +73,6 @@ upper_start width columns sub count split e l told =
 pub halves_number : (width sub c from less : ℕ) → is_width width ≡ true → width ≤ 16 → from ≤ c → less ≤ sub / width + from * (32 / width)
     → (from * (32 / width) + sub / width - less) * (width * 2) + sub % width + (c - from) * 64 ≡ (position width sub c - less) * (width * 2) + sub % width
 halves_number width sub c from less w h l m =
-    let lanes : ℕ = 32 / width in
     let step : (c - from) * 64 ≡ (c - from) * (32 / width * (width * 2)) = ap (λ t. (c - from) * t) (sym (width-halves width w h).1) in
     let k : c ≡ from + (c - from) = omega arith in
     let parts : (from + (c - from)) * (32 / width) ≡ from * (32 / width) + (c - from) * (32 / width) = grind arith in

@@ -33,7 +33,6 @@ widened_number narrow n lanes part lane place c = let z : c - 0 ≡ c = omega ar
 
 pub widened_reach : (wide narrow n part p j : ℕ) → is_width wide ≡ true → part < wide / narrow → p < n * (32 / wide) → j < narrow → (part * (n * (32 / wide)) + p) * narrow + j < 32 * n
 widened_reach wide narrow n part p j w q h l =
-    let all : ℕ = n * (32 / wide) in
     let a : (part + 1) * (n * (32 / wide)) ≤ wide / narrow * (n * (32 / wide)) = mul-le-mul_right (n * (32 / wide)) (omega arith) in
     let b : (part + 1) * (n * (32 / wide)) ≡ part * (n * (32 / wide)) + n * (32 / wide) = grind arith in
     let k : narrow * (part * (n * (32 / wide)) + p + 1) ≤ narrow * (wide / narrow * (n * (32 / wide))) = mul-le-mul_left narrow (omega arith) in

@@ -55,3 +55,7 @@ subarray_bit subarrays sub c = word_bit (slice_index_or subarrays sub []) c
 abbrev pub HoldsSource : List (List ℕ) → Source → (width : ℕ) → Slices → (sub : ℕ) → Type 0
 HoldsSource subarrays source width s sub =
     (c : ℕ) → subarray_bit subarrays sub c ≡ column_bit source width s sub c
+
+-- The columns from `from` on and below `to` have the bits of a row from the column `at` on, and the others stay.
+abbrev pub copied_bit : (row : ℕ → Bool) → (at from to : ℕ) → (old : ℕ → Bool) → ℕ → Bool
+copied_bit row at from to old c = cond (leb from c && ltb c to) (row (at + (c - from))) (old c)

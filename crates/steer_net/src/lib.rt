@@ -2,6 +2,7 @@
 #![tactic(auto)]
 
 mod columns;
+mod copies;
 mod lanes;
 mod moves;
 mod packing;

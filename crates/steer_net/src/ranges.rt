@@ -45,7 +45,7 @@ pub(crate) fn count_below(number: u64, step: u32, bound: u32) -> u32
 }
 
 // Word `i` of the bits that are set at the places from `start` on and below `end`.
-fn range_word(start: u32, end: u32, i: u32) -> u64
+pub(crate) fn range_word(start: u32, end: u32, i: u32) -> u64
     requires { i < 32 }
     ensures { (j : ℕ) → j < 64 → eqb (bit_at result j) 1 ≡ (leb start (64 * i + j) && ltb (64 * i + j) end) }
 {
@@ -81,7 +81,7 @@ fn chosen_bits(mask: u64, on: bool, off: bool) -> u64
 }
 
 // A word whose bits are all this one.
-fn all_bits(bit: bool) -> u64
+pub(crate) fn all_bits(bit: bool) -> u64
     ensures { (j : ℕ) → j < 64 → eqb (bit_at result j) 1 ≡ bit }
 {
     if bit { u64::MAX } else { 0 }

@@ -12,7 +12,6 @@ returns-else-part-eq0-clause-columns c k l =
 pub returns-else-part-eq0-clause-bits : goal.returns-else-part-eq0-clause-bits
 returns-else-part-eq0-clause-bits c k l from to =
     let w = c.args.width in
-    let half = c.args.columns * (32 / (w * 2)) in
     let split = c.min-split.result in
     let count = c.count_below.result in
     let one : c.args.part ≡ 1 = let p = c.requires.part in let q = c.if-part-eq0.false in omega arith in

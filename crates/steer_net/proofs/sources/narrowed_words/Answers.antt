@@ -15,7 +15,6 @@ returns g c k =
     let run = c.narrowed_run-run.result in
     let told = c.narrowed_run-run.ensures in
     let n : c.columns.result ≡ s.columns = c.columns.ensures.value in
-    let within = leb run.from k && ltb k run.to in
     let past : s.columns ≤ k → (leb run.from k && ltb k run.to) ≡ false =
     λ l. let e = told.end in let m : run.to ≤ k = omega (arith, n) in rw (le-ltb k run.to m) (none (leb run.from k)) in
     let inside : k < s.columns → (leb run.from k && ltb k run.to) ≡ in_part c.args.part (s.columns * (32 / (w * 2))) (position w c.args.sub k) =

@@ -3,7 +3,7 @@ use Rattle.bit_rows.specs.Words.{word_bit}
 use Rattle.steer_net.specs.Moves.{bit_in_group}
 use Rattle.steer_net.specs.Runs.{run_number}
 use Rattle.steer_net.proofs.RunBits.{number_small, running, running_none, running_more}
-use Rattle.steer_net.proofs.runs.write_run.Goals as goal
+use Rattle.steer_net.proofs.runs.write_bits.Goals as goal
 
 pub loop-col-init : goal.loop-col-init
 loop-col-init g c k =
