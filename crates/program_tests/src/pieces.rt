@@ -2,12 +2,12 @@
 use crate::chains::{Cost, Trial, Word, cost_of};
 use bit_laws::W8;
 use cam_chain::Keys;
-use micro_ir::{MicroBuf, MicroOp, TableStep, emit_broadcast, emit_table};
+use micro_ir::{MicroBuf, MicroOp, TableStep, emit_broadcast, emit_increment, emit_table};
 use std::alloc::Global;
 use std::test::Fail;
 
 // Room for any list here.
-const ROOM: u32 = 32;
+const ROOM: u32 = 64;
 
 // The row that one bit of an element is spread in.
 const BROADCAST_ROW: u8 = 37;
@@ -24,6 +24,8 @@ enum List {
     Table,
     // bit 2 of each byte of row 1
     Broadcast,
+    // the lowest bit of each byte of row 1 is added to the byte of row 2
+    Increment,
 }
 
 // Where the rows 1 and 2 differ in one of the subarrays 0 to 3, the subarray above it gets a 1 in row 3.
@@ -37,6 +39,20 @@ const DIFFER: TableStep = TableStep {
     times: 1,
 };
 
+// The row that holds a sum.
+const RESULT_ROW: u8 = 36;
+
+// The lowest bit of each byte of row 1 is carried in.
+const LOWEST: TableStep = TableStep {
+    inputs: [1, 0, 0, 0],
+    n: 1,
+    on: 0b10,
+    out: 35,
+    subs: 0x0101_0101,
+    up: true,
+    times: 0,
+};
+
 // A list, how many of its operations are carried out, on what, and what they cost.
 #[derive(Clone, Copy)]
 struct Row {
@@ -46,7 +62,7 @@ struct Row {
     cost: Cost,
 }
 
-static ROWS: [Row; 3] = [
+static ROWS: [Row; 4] = [
     // The elements have the numbers 10, 11 and 12. The last window is not carried out.
     Row {
         list: List::Windows,
@@ -90,6 +106,21 @@ static ROWS: [Row; 3] = [
         },
         cost: (9, 9, 7),
     },
+    // The lowest byte wraps, and the highest one gets nothing.
+    Row {
+        list: List::Increment,
+        first: 51,
+        trial: Trial {
+            columns: 1,
+            before: &[Word(1, 0, 0x00ff_0001), Word(2, 0, 0xff7f_00ff)],
+            after: &[
+                Word(1, 0, 0x00ff_0001),
+                Word(2, 0, 0xff7f_00ff),
+                Word(RESULT_ROW, 0, 0xff80_0000),
+            ],
+        },
+        cost: (26, 18, 7),
+    },
 ];
 
 // Appends a window of one element, a search for it, a pass, an update in a byte, and a window that spoils the update.
@@ -128,6 +159,16 @@ fn push_windows(buf: &mut MicroBuf) -> Result<(), Fail> {
     Ok(())
 }
 
+// Appends the list that adds the bits.
+#[tactic(auto, unfolding(micro_ir::specs::Tables::values_of, micro_ir::specs::Subs::subs_of))]
+fn push_increment(buf: &mut MicroBuf) -> Result<(), Fail> {
+    if buf.spare() < ROOM {
+        return Err("room".into());
+    }
+    emit_increment::<W8>(buf, 2, &LOWEST);
+    Ok(())
+}
+
 // The list.
 #[tactic(auto, unfolding(micro_ir::specs::Tables::values_of))]
 fn list_of(alloc: Global, list: List) -> Result<MicroBuf, Fail> {
@@ -136,6 +177,7 @@ fn list_of(alloc: Global, list: List) -> Result<MicroBuf, Fail> {
         List::Windows => push_windows(&mut buf)?,
         List::Table => emit_table(&mut buf, &DIFFER),
         List::Broadcast => emit_broadcast::<W8>(&mut buf, 1, 2),
+        List::Increment => push_increment(&mut buf)?,
     }
     Ok(buf)
 }
