@@ -6,7 +6,9 @@ use Rattle.std.specs.Prelude.{ℕ, ◌+◌, ◌-◌, ◌*◌, ◌≤◌, Bool, t
 use Rattle.std.specs.Option.{option_map_or}
 use Rattle.std.specs.Str.{bytes_eq}
 use Rattle.debug_words.specs.declared.command.Command.{Command}
-use Rattle.debug_words.specs.declared.command.Command.TheVariants.{Empty, Step, Cont, Break, Regs, Vregs, Vcsr, Mem, Slice, Tags, Micro, MicroAt, Ustep, Map, Quit, NoForm, NoRange}
+use Rattle.debug_words.specs.declared.command.Command.TheVariants.{Step, Cont, Break, Map, Quit, Show}
+use Rattle.debug_words.specs.declared.command.Shown.{Shown}
+use Rattle.debug_words.specs.declared.command.Shown.TheVariants.{Nothing, Regs, Vregs, Vcsr, Mem, Slice, Tags, Micro, MicroAt, Ustep, NoForm, NoRange}
 use Rattle.debug_words.specs.declared.numbers.Numbers.{Numbers}
 use Rattle.debug_words.specs.declared.numbers.Numbers.TheVariants.{Zero, One, Two, Three}
 use Rattle.debug_words.specs.declared.words.Name.{Name}
@@ -134,32 +136,32 @@ most_bytes_shown = 64
 abbrev pub alone : Name → Command
 alone StepName = Step 1
 alone ContName = Cont most_cont
-alone RegsName = Regs
-alone VcsrName = Vcsr
-alone MicroName = Micro
+alone RegsName = Show Regs
+alone VcsrName = Show Vcsr
+alone MicroName = Show Micro
 alone QuitName = Quit
-alone name = NoForm
+alone name = Show NoForm
 
 -- the command of a name and its numbers, where they are in their ranges
 abbrev pub with_one : Name → ℕ → Option Command
 with_one StepName n = option_map Step (ranged 1 most_steps n)
 with_one ContName n = option_map Cont (ranged 1 most_cont n)
 with_one BreakName n = option_map Break (word_number n)
-with_one VregsName n = option_map Vregs (ranged 0 31 n)
-with_one TagsName n = option_map Tags (subarray n)
-with_one MicroName n = option_map MicroAt (word_number n)
+with_one VregsName n = option_map (λ r. Show (Vregs r)) (ranged 0 31 n)
+with_one TagsName n = option_map (λ sub. Show (Tags sub)) (subarray n)
+with_one MicroName n = option_map (λ k. Show (MicroAt k)) (word_number n)
 with_one MapName n = option_map Map (word_number n)
-with_one name n = Some NoForm
+with_one name n = Some (Show NoForm)
 
 abbrev pub with_two : Name → ℕ → ℕ → Option Command
-with_two MemName a n = option_and_then (λ address. option_map (λ bytes. Mem address bytes) (ranged 1 most_bytes_shown n)) (word_number a)
-with_two SliceName s r = option_and_then (λ sub. option_map (λ at. Slice sub at) (row r)) (subarray s)
-with_two name a b = Some NoForm
+with_two MemName a n = option_and_then (λ address. option_map (λ bytes. Show (Mem address bytes)) (ranged 1 most_bytes_shown n)) (word_number a)
+with_two SliceName s r = option_and_then (λ sub. option_map (λ at. Show (Slice sub at)) (row r)) (subarray s)
+with_two name a b = Some (Show NoForm)
 
 abbrev pub with_three : Name → ℕ → ℕ → ℕ → Option Command
 with_three UstepName k s r =
-    option_and_then (λ count. option_and_then (λ sub. option_map (λ at. Ustep count sub at) (row r)) (subarray s)) (word_number k)
-with_three name a b c = Some NoForm
+    option_and_then (λ count. option_and_then (λ sub. option_map (λ at. Show (Ustep count sub at)) (row r)) (subarray s)) (word_number k)
+with_three name a b c = Some (Show NoForm)
 
 abbrev pub command_with : Name → Numbers → Option Command
 command_with name Zero = Some (alone name)
@@ -169,13 +171,13 @@ command_with name (Three a b c) = with_three name a b c
 
 -- the command of a name with the numbers after it, if they are numbers
 abbrev pub command_named : Name → Option Numbers → Command
-command_named name None = NoForm
-command_named name (Some numbers) = unwrap_or (command_with name numbers) NoRange
+command_named name None = Show NoForm
+command_named name (Some numbers) = unwrap_or (command_with name numbers) (Show NoRange)
 
 -- the command of pieces, of which the first is its name
 abbrev pub command_among : List (List ℕ) → Command
-command_among [] = NoForm
-command_among (word ∷ rest) = option_map_or (λ name. command_named name (numbers_after Zero rest)) (name_among word names) NoForm
+command_among [] = Show NoForm
+command_among (word ∷ rest) = option_map_or (λ name. command_named name (numbers_after Zero rest)) (name_among word names) (Show NoForm)
 
 -- the most bytes of a line that has a command's form
 abbrev pub longest_line : ℕ
@@ -184,17 +186,21 @@ longest_line = 255
 -- the command of a line
 unfoldable pub command_of : List ℕ → Command
 command_of line =
-    if is_empty line then Empty
-    else if nat_lt longest_line (length line) then NoForm
+    if is_empty line then Show Nothing
+    else if nat_lt longest_line (length line) then Show NoForm
     else command_among (pieces line)
 
 -- the numbers of a command are in their ranges
+abbrev pub IsShownInRange : Shown → Type 0
+IsShownInRange (Vregs r) = r ≤ 31
+IsShownInRange (Mem a n) = n ≤ most_bytes_shown
+IsShownInRange (Slice s r) = (s ≤ 31) × (r ≤ 63)
+IsShownInRange (Tags s) = s ≤ 31
+IsShownInRange (Ustep k s r) = (s ≤ 31) × (r ≤ 63)
+IsShownInRange shown = ⊤
+
 abbrev pub IsInRange : Command → Type 0
 IsInRange (Step k) = k ≤ most_steps
 IsInRange (Cont k) = k ≤ most_cont
-IsInRange (Vregs r) = r ≤ 31
-IsInRange (Mem a n) = n ≤ most_bytes_shown
-IsInRange (Slice s r) = (s ≤ 31) × (r ≤ 63)
-IsInRange (Tags s) = s ≤ 31
-IsInRange (Ustep k s r) = (s ≤ 31) × (r ≤ 63)
+IsInRange (Show shown) = IsShownInRange shown
 IsInRange command = ⊤

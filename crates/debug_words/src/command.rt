@@ -3,14 +3,25 @@
 /// What one line of a session asks for, with its numbers in their ranges.
 #[derive(Clone, Copy, Debug, PartialEq, Eq)]
 pub enum Command {
-    /// A line of no bytes, which has no answer.
-    Empty,
     /// Up to so many steps.
     Step(u32),
     /// Up to so many steps, to an instruction at a break.
     Cont(u32),
     /// Adds the break at an address, or takes it away.
     Break(u32),
+    /// Maps the page of an address.
+    Map(u32),
+    /// Ends the session.
+    Quit,
+    /// Shows something, and changes nothing.
+    Show(Shown),
+}
+
+/// What a line shows.
+#[derive(Clone, Copy, Debug, PartialEq, Eq)]
+pub enum Shown {
+    /// Nothing: a line of no bytes has no answer.
+    Nothing,
     /// The program counter and the scalar registers.
     Regs,
     /// The bytes of a vector register.
@@ -27,15 +38,11 @@ pub enum Command {
     Micro,
     /// One operation of that program, by its place.
     MicroAt(u32),
-    /// The row and the tags of a subarray after so many operations of the next instruction's program: the number of
-    /// operations, the subarray and the row.
+    /// A row and the tags of a subarray after some operations of the next instruction's program: how many operations,
+    /// the subarray and the row.
     Ustep(u32, u8, u8),
-    /// Maps the page of an address.
-    Map(u32),
-    /// Ends the session.
-    Quit,
-    /// A line in no command's form.
+    /// That the line has no command's form.
     NoForm,
-    /// A line in the form of a command, with a number outside its range.
+    /// That a number of the line is outside its range.
     NoRange,
 }

@@ -6,6 +6,6 @@ mod numbers;
 mod reader;
 mod words;
 
-pub use command::Command;
+pub use command::{Command, Shown};
 pub use reader::{CommandLine, Reader};
 pub use words::command_of;

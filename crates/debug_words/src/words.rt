@@ -2,7 +2,7 @@
 ghost use Rattle.std.specs.Prelude.{◌≡◌, ◌≤◌, ◌∷◌, length, take, drop};
 ghost use Rattle.debug_words.specs.Grammar.{name_text, name_among, names, pieces, pieces_after, is_gap as gap_before, numbers_after, alone as only, with_one as of_one, with_two as of_two, with_three as of_three, command_with as command_for, command_of as command, IsInRange};
 
-use crate::command::Command;
+use crate::command::{Command, Shown};
 use crate::numbers::{Numbers, number_of, ranged};
 
 // The most bytes of a line that has a command's form.
@@ -148,11 +148,11 @@ fn alone(name: Name) -> Command
     match name {
         Name::Step => Command::Step(DEFAULT_STEPS),
         Name::Cont => Command::Cont(MOST_CONT),
-        Name::Regs => Command::Regs,
-        Name::Vcsr => Command::Vcsr,
-        Name::Micro => Command::Micro,
+        Name::Regs => Command::Show(Shown::Regs),
+        Name::Vcsr => Command::Show(Shown::Vcsr),
+        Name::Micro => Command::Show(Shown::Micro),
         Name::Quit => Command::Quit,
-        _ => Command::NoForm,
+        _ => Command::Show(Shown::NoForm),
     }
 }
 
@@ -164,11 +164,11 @@ fn with_one(name: Name, number: u64) -> Option<Command>
         Name::Step => Some(Command::Step(ranged(1, MOST_STEPS, number)?)),
         Name::Cont => Some(Command::Cont(ranged(1, MOST_CONT, number)?)),
         Name::Break => Some(Command::Break(ranged(0, u32::MAX, number)?)),
-        Name::Vregs => Some(Command::Vregs(ranged(0, LAST_REGISTER, number)? as u8)),
-        Name::Tags => Some(Command::Tags(ranged(0, LAST_SUBARRAY, number)? as u8)),
-        Name::Micro => Some(Command::MicroAt(ranged(0, u32::MAX, number)?)),
+        Name::Vregs => Some(Command::Show(Shown::Vregs(ranged(0, LAST_REGISTER, number)? as u8))),
+        Name::Tags => Some(Command::Show(Shown::Tags(ranged(0, LAST_SUBARRAY, number)? as u8))),
+        Name::Micro => Some(Command::Show(Shown::MicroAt(ranged(0, u32::MAX, number)?))),
         Name::Map => Some(Command::Map(ranged(0, u32::MAX, number)?)),
-        _ => Some(Command::NoForm),
+        _ => Some(Command::Show(Shown::NoForm)),
     }
 }
 
@@ -177,15 +177,17 @@ fn with_two(name: Name, first: u64, second: u64) -> Option<Command>
     ensures { result ≡ of_two name first second }
 {
     match name {
-        Name::Mem => Some(Command::Mem(
-            ranged(0, u32::MAX, first)?,
-            ranged(1, MOST_SHOWN, second)?,
-        )),
+        Name::Mem => {
+            let address = ranged(0, u32::MAX, first)?;
+            let len = ranged(1, MOST_SHOWN, second)?;
+            Some(Command::Show(Shown::Mem(address, len)))
+        }
         Name::Slice => {
             let subarray = ranged(0, LAST_SUBARRAY, first)? as u8;
-            Some(Command::Slice(subarray, ranged(0, LAST_ROW, second)? as u8))
+            let row = ranged(0, LAST_ROW, second)? as u8;
+            Some(Command::Show(Shown::Slice(subarray, row)))
         }
-        _ => Some(Command::NoForm),
+        _ => Some(Command::Show(Shown::NoForm)),
     }
 }
 
@@ -197,9 +199,10 @@ fn with_three(name: Name, first: u64, second: u64, third: u64) -> Option<Command
         Name::Ustep => {
             let operations = ranged(0, u32::MAX, first)?;
             let subarray = ranged(0, LAST_SUBARRAY, second)? as u8;
-            Some(Command::Ustep(operations, subarray, ranged(0, LAST_ROW, third)? as u8))
+            let row = ranged(0, LAST_ROW, third)? as u8;
+            Some(Command::Show(Shown::Ustep(operations, subarray, row)))
         }
-        _ => Some(Command::NoForm),
+        _ => Some(Command::Show(Shown::NoForm)),
     }
 }
 
@@ -221,17 +224,17 @@ pub fn command_of(line: &[u8]) -> Command
     ensures ranges { IsInRange result }
 {
     if line.is_empty() {
-        return Command::Empty;
+        return Command::Show(Shown::Nothing);
     }
     if line.len() > LONGEST_LINE {
-        return Command::NoForm;
+        return Command::Show(Shown::NoForm);
     }
     let len = piece_len(line);
     let Some(name) = name_of(&line[..len]) else {
-        return Command::NoForm;
+        return Command::Show(Shown::NoForm);
     };
     match numbers_of(&line[len..], Numbers::Zero) {
-        Some(numbers) => command_with(name, numbers).unwrap_or(Command::NoRange),
-        None => Command::NoForm,
+        Some(numbers) => command_with(name, numbers).unwrap_or(Command::Show(Shown::NoRange)),
+        None => Command::Show(Shown::NoForm),
     }
 }
