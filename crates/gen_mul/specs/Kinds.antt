@@ -17,14 +17,21 @@ use Rattle.gen_mul.specs.Lists.{product_steps}
 abbrev pub high_part : (w : ℕ) → ℤ → ℕ
 high_part w z = low_int w (int_div_euclid z (pos (2 ^ w)))
 
+-- the high half of the product of two numbers with signs; and a number less a product, modulo 2^w
+abbrev pub signed_high : (w a b : ℕ) → ℕ
+signed_high w a b = high_part w (signed w a *ℤ signed w b)
+
+abbrev pub less_product : (w a b addend : ℕ) → ℕ
+less_product w a b addend = addend + (2 ^ w - low w (a * b))
+
 -- the values of numbers of w bits, of which the low w bits count
 abbrev pub product_value : Product → (w a b addend : ℕ) → ℕ
 product_value Mul w a b addend = a * b
 product_value Mulhu w a b addend = a * b / 2 ^ w
 product_value Mulhsu w a b addend = high_part w (signed w a *ℤ pos b)
-product_value Mulh w a b addend = high_part w (signed w a *ℤ signed w b)
+product_value Mulh w a b addend = signed_high w a b
 product_value Macc w a b addend = a * b + addend
-product_value Nmsac w a b addend = addend + (2 ^ w - low w (a * b))
+product_value Nmsac w a b addend = less_product w a b addend
 
 abbrev pub product_ops : Product → (w : ℕ) → Place → List MicroOp
 product_ops kind w at = micros w (product_steps kind w at.a at.b at.addend at.to)

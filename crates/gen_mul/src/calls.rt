@@ -1,12 +1,11 @@
 // A call for each kind: a row of the table of products.
 ghost use Rattle.std.specs.Prelude.{◌≡◌, Bool, pos, ◌*ℤ◌, ◌+◌, ◌-◌, ◌*◌, ◌/◌, ◌^◌, ◌<◌, ◌≤◌, ◌++◌};
-ghost use Rattle.bit_laws.specs.Numbers.{low};
 ghost use Rattle.bit_laws.specs.Signed.{signed};
 ghost use Rattle.micro_ir.specs.Kinds.{Realises};
 ghost use Rattle.micro_ir.specs.Measures.{Measured};
 ghost use Rattle.micro_ir.specs.WorkRows.{IsOperandRow};
 ghost use Rattle.gen_mul.specs.declared.kinds.Product.TheVariants.{Mul, Mulhu, Mulhsu, Mulh, Macc, Nmsac};
-ghost use Rattle.gen_mul.specs.Kinds.{high_part, product_ops, product_counts};
+ghost use Rattle.gen_mul.specs.Kinds.{high_part, product_ops, product_counts, signed_high, less_product};
 
 use crate::kinds::Product;
 use crate::lists::emit_product;
@@ -74,7 +73,7 @@ pub fn emit_mulh<W: Width>(buf: &mut MicroBuf, at: &Place)
     ensures ops { buf.new.ops ≡ buf.old.ops ++ product_ops Mulh W.BITS at.now }
     ensures spare { buf.new.spare + (W.BITS * (20 * W.BITS + 61) + 2) ≡ buf.old.spare }
     ensures realises { (reads : Bool) → Realises W.BITS at.now.to reads
-        (λ n c. high_part W.BITS (signed W.BITS (n at.now.a) *ℤ signed W.BITS (n at.now.b))) (product_ops Mulh W.BITS at.now) }
+        (λ n c. signed_high W.BITS (n at.now.a) (n at.now.b)) (product_ops Mulh W.BITS at.now) }
     ensures cost { Measured (product_counts Mulh W.BITS)
         (W.BITS * (20 * W.BITS + 61) + 2) (product_ops Mulh W.BITS at.now) }
 {
@@ -110,7 +109,7 @@ pub fn emit_nmsac<W: Width>(buf: &mut MicroBuf, at: &Place)
     ensures ops { buf.new.ops ≡ buf.old.ops ++ product_ops Nmsac W.BITS at.now }
     ensures spare { buf.new.spare + (W.BITS * (20 * W.BITS + 32) + 8) ≡ buf.old.spare }
     ensures realises { (reads : Bool) → Realises W.BITS at.now.to reads
-        (λ n c. n at.now.addend + (2 ^ W.BITS - low W.BITS (n at.now.a * n at.now.b))) (product_ops Nmsac W.BITS at.now) }
+        (λ n c. less_product W.BITS (n at.now.a) (n at.now.b) (n at.now.addend)) (product_ops Nmsac W.BITS at.now) }
     ensures cost { Measured (product_counts Nmsac W.BITS)
         (W.BITS * (20 * W.BITS + 32) + 8) (product_ops Nmsac W.BITS at.now) }
 {

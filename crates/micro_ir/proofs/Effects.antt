@@ -222,7 +222,7 @@ commit-cost w row to = tally-micros w (commit w row to)
 abbrev counts : (searches updates passes : ℕ) → Counts
 counts searches updates passes = record { searches = searches; updates = updates; passes = passes }
 
-counts-same : (a b c x y z : ℕ) → a ≡ x → b ≡ y → c ≡ z → counts a b c ≡ counts x y z
+pub counts-same : (a b c x y z : ℕ) → a ≡ x → b ≡ y → c ≡ z → counts a b c ≡ counts x y z
 counts-same a b c x y z p q r = λ i. counts (p i) (q i) (r i)
 
 pub ups-counts : (row j n : ℕ) → steps_counts (ups row j n) ≡ counts n n n

@@ -15,3 +15,5 @@ pub mod Scalars
 pub mod Committed
 pub mod Measuring
 pub mod Valued
+pub mod Ripples
+pub mod Incrementing

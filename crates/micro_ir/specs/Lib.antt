@@ -12,3 +12,4 @@ pub mod Effects
 pub mod Tables
 pub mod Kinds
 pub mod Measures
+pub mod Increments

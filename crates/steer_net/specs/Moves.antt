@@ -1,6 +1,6 @@
 -- The operations of the network that move elements between columns, or number them. Element p of a row of `width` bits has
 -- its bits in column p div (32 / width). Every operation writes its own row alone, by the slices as they stand before.
-use Rattle.std.specs.Prelude.{ℕ, ◌+◌, ◌-◌, ◌*◌, ◌/◌, ◌%◌, ◌^◌, ◌≤◌, Bool, cond, ◌&&◌, ◌||◌, eqb}
+use Rattle.std.specs.Prelude.{ℕ, ◌+◌, ◌-◌, ◌*◌, ◌/◌, ◌%◌, ◌≤◌, Bool, cond, ◌&&◌, ◌||◌, eqb}
 use Rattle.std.specs.Int.{bit_at}
 use lib.Dec.{ltb, leb}
 use Rattle.bit_rows.specs.Slices.{Slices, placed}

@@ -20,8 +20,9 @@ pub(crate) struct Run {
 
 // Writes the bits of a run into the words of a subarray.
 pub(crate) fn write_run<P: Planes>(p: &P, run: Run, words: &mut [u64; MAX_WORDS])
+    requires few { (P.slices p.now).columns ≤ 2048 }
+    requires order { run.from ≤ run.to }
     requires end { run.to ≤ (P.slices p.now).columns }
-    requires step { run.step ≤ 64 }
     requires rows { RunReaches (P.slices p.now) run }
     ensures { (c : ℕ) → word_bit words.new c ≡ run_bit (P.slices p.now) run (word_bit words.old) c }
 {

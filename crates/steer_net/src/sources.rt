@@ -1,11 +1,11 @@
 // What the columns of a row that is rewritten get, subarray by subarray. A subarray has one bit of one
 // element of each column.
-ghost use Rattle.std.specs.Prelude.{◌≡◌, ℕ, ◌+◌, ◌*◌, ◌/◌, ◌%◌, ◌^◌, ◌<◌, ◌≤◌, true, ◌&&◌, eqb, ltb};
+ghost use Rattle.std.specs.Prelude.{◌≡◌, ℕ, ◌+◌, ◌-◌, ◌*◌, ◌/◌, ◌%◌, ◌^◌, ◌<◌, ◌≤◌, true, cond, ◌&&◌, eqb, ltb, leb};
 ghost use Rattle.std.specs.Int.{bit_at};
 ghost use Rattle.bit_rows.specs.Words.{word_bit};
 ghost use Rattle.steer_net.specs.Network.{is_width, position};
-ghost use Rattle.steer_net.specs.Moves.{GroupReaches};
-ghost use Rattle.steer_net.specs.Runs.{source_bit, IsSource};
+ghost use Rattle.steer_net.specs.Moves.{GroupReaches, in_part};
+ghost use Rattle.steer_net.specs.Runs.{column_bit, IsSource, run_number, narrowed_number};
 ghost use Rattle.steer_net.specs.declared.sources.Source.TheVariants.{Widened, Narrowed, Slid, Picked, Indexed};
 
 use crate::packing::{put_column, row_words};
@@ -54,7 +54,7 @@ pub(crate) fn source_words<P: Planes>(p: &P, width: u8, source: Source, sub: u8)
     requires sub { sub < 32 }
     requires reads { IsSource source width (P.slices p.now).columns }
     ensures { (c : ℕ) → word_bit result c
-        ≡ (ltb c (P.slices p.now).columns && source_bit source width (P.slices p.now) (position width sub c) (sub % width)) }
+        ≡ column_bit source width (P.slices p.now) sub c }
 {
     match source {
         Source::Widened { from, narrow, part } => widened_words(p, from, narrow, width, part, sub),
@@ -91,7 +91,7 @@ fn widened_words<P: Planes>(
     requires sub { sub < 32 }
     requires reads { IsSource (Widened from narrow part) wide (P.slices p.now).columns }
     ensures { (c : ℕ) → word_bit result c
-        ≡ (ltb c (P.slices p.now).columns && source_bit (Widened from narrow part) wide (P.slices p.now) (position wide sub c) (sub % wide)) }
+        ≡ column_bit (Widened from narrow part) wide (P.slices p.now) sub c }
 {
     let mut words = [0; MAX_WORDS];
     let place = sub % wide;
@@ -122,35 +122,54 @@ fn narrowed_words<P: Planes>(
     requires sub { sub < 32 }
     requires reads { IsSource (Narrowed from to part) width (P.slices p.now).columns }
     ensures { (c : ℕ) → word_bit result c
-        ≡ (ltb c (P.slices p.now).columns && source_bit (Narrowed from to part) width (P.slices p.now) (position width sub c) (sub % width)) }
+        ≡ column_bit (Narrowed from to part) width (P.slices p.now) sub c }
 {
     let mut words = row_words(p, sub, to);
+    let run = narrowed_run(p.columns(), from, width, part, sub);
+    write_run(p, run, &mut words);
+    words
+}
+
+// The columns of a subarray whose elements belong to the part, and their bits in the row `from`.
+fn narrowed_run(columns: u32, from: u8, width: u8, part: u8, sub: u8) -> Run
+    requires few { columns ≤ 2048 }
+    requires width { is_width width ≡ true }
+    requires narrow { width ≤ 16 }
+    requires part { part ≤ 1 }
+    requires sub { sub < 32 }
+    ensures base { result.base ≡ from }
+    ensures order { result.from ≤ result.to }
+    ensures end { result.to ≤ columns }
+    ensures columns { (c : ℕ) → c < columns
+        → (leb result.from c && ltb c result.to) ≡ in_part part (columns * (32 / (width * 2))) (position width sub c) }
+    ensures bits { (c : ℕ) → c < columns → result.from ≤ c → c < result.to
+        → run_number result c ≡ narrowed_number width part columns sub c }
+{
     let lanes = u32::from(SUBARRAYS / width);
     let lane = u32::from(sub / width);
-    // The lower half of the row ends before this column.
-    let half = p.columns() * (lanes / 2);
-    let split = count_below(u64::from(lane), lanes, half).min(p.columns());
-    let run = if part == 0 {
+    let wide = u32::from(width * 2);
+    let place = u32::from(sub % width);
+    // The lower half of the row ends before the column `split`.
+    let half = columns * (u32::from(SUBARRAYS) / wide);
+    let split = count_below(u64::from(lane), lanes, half).min(columns);
+    let step = 2 * u32::from(SUBARRAYS);
+    if part == 0 {
         Run {
             base: from,
-            start: u64::from(lane * u32::from(width * 2) + u32::from(sub % width)),
-            step: 2 * u32::from(SUBARRAYS),
+            start: u64::from(lane * wide + place),
+            step,
             from: 0,
             to: split,
         }
     } else {
         Run {
             base: from,
-            start: u64::from(
-                (split * lanes + lane - half) * u32::from(width * 2) + u32::from(sub % width),
-            ),
-            step: 2 * u32::from(SUBARRAYS),
+            start: u64::from((split * lanes + lane - half) * wide + place),
+            step,
             from: split,
-            to: p.columns(),
+            to: columns,
         }
-    };
-    write_run(p, run, &mut words);
-    words
+    }
 }
 
 fn slid_words<P: Planes>(
@@ -167,24 +186,15 @@ fn slid_words<P: Planes>(
     requires sub { sub < 32 }
     requires reach { GroupReaches (P.slices p.now).columns base width limit }
     ensures { (c : ℕ) → word_bit result c
-        ≡ (ltb c (P.slices p.now).columns && source_bit (Slid base first up by limit) width (P.slices p.now) (position width sub c) (sub % width)) }
+        ≡ column_bit (Slid base first up by limit) width (P.slices p.now) sub c }
 {
     let lanes = u32::from(SUBARRAYS / width);
     // The sum of two u32 may not fit one.
     let number = u64::from(first) + u64::from(sub / width);
-    let from = if up {
-        count_below(number, lanes, by)
-    } else {
-        0
-    };
+    let from = slide_start(number, lanes, up, by);
     let mut words = [0; MAX_WORDS];
     if from < p.columns() {
-        let number = number + u64::from(from) * u64::from(lanes);
-        let element = if up {
-            number - u64::from(by)
-        } else {
-            number + u64::from(by)
-        };
+        let element = slid_element(number + u64::from(from) * u64::from(lanes), up, by);
         let count = count_below(element, lanes, limit).min(p.columns() - from);
         let run = Run {
             base,
@@ -196,6 +206,31 @@ fn slid_words<P: Planes>(
         write_run(p, run, &mut words);
     }
     words
+}
+
+// How many columns have no element so many places below theirs.
+fn slide_start(number: u64, lanes: u32, up: bool, by: u32) -> u32
+    requires { 1 ≤ lanes }
+    ensures { (c : ℕ) → ltb c result ≡ (up && ltb (number + c * lanes) by) }
+{
+    if up {
+        count_below(number, lanes, by)
+    } else {
+        0
+    }
+}
+
+// The number of the element that slides to this one.
+fn slid_element(number: u64, up: bool, by: u32) -> u64
+    requires small { number < 2 ^ 63 }
+    requires there { up ≡ true → by ≤ number }
+    ensures { result ≡ cond up (number - by) (number + by) }
+{
+    if up {
+        number - u64::from(by)
+    } else {
+        number + u64::from(by)
+    }
 }
 
 fn picked_words<P: Planes>(
@@ -210,7 +245,7 @@ fn picked_words<P: Planes>(
     requires sub { sub < 32 }
     requires reach { GroupReaches (P.slices p.now).columns base width limit }
     ensures { (c : ℕ) → word_bit result c
-        ≡ (ltb c (P.slices p.now).columns && source_bit (Picked base index limit) width (P.slices p.now) (position width sub c) (sub % width)) }
+        ≡ column_bit (Picked base index limit) width (P.slices p.now) sub c }
 {
     let mut words = [0; MAX_WORDS];
     if index < limit {
@@ -238,7 +273,14 @@ fn number_words(columns: u32, number: u64, step: u32, place: u8) -> [u64; MAX_WO
     let mut words = [0; MAX_WORDS];
     for col in 0..columns {
         let number = number + u64::from(col * step);
-        put_column(&mut words, col, (number >> place) & 1 == 1);
+        put_column(&mut words, col, has_bit(number, place));
     }
     words
+}
+
+fn has_bit(number: u64, place: u8) -> bool
+    requires { place < 32 }
+    ensures { result ≡ eqb (bit_at number place) 1 }
+{
+    (number >> place) & 1 == 1
 }
