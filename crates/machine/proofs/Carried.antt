@@ -1,7 +1,8 @@
 -- Each kind of instruction, carried out by its method, is a step.
-use Rattle.std.proofs.Common.{◌≡◌, ℕ, Bool, true, false, List, [], Option, Some, None, refl, sym, ap, ◌∙◌, append-nil, arith}
+use Rattle.std.proofs.Common.{◌≡◌, ℕ, Bool, true, false, List, [], Option, Some, None, ◌⊎◌, inl, inr, ⊎_elim, refl, sym, ap, ◌∙◌, append-nil, arith}
 use Rattle.std.specs.Prelude.{if◌then◌else◌, nat_eq}
 use Rattle.std.specs.Io.KnownBytes.{Appends, Consumes}
+use Rattle.std.proofs.lemmas.Bool.{false≢true}
 use Rattle.cape_io.specs.Views.{DeviceViews, Devices}
 use Rattle.cam_chain.specs.ChainValue.{slices_of}
 use Rattle.micro_ir.specs.declared.op.MicroOp.{MicroOp}
@@ -20,9 +21,11 @@ use Rattle.rvv_meaning.specs.declared.Mode.{Mode}
 use Rattle.rvv_meaning.specs.declared.Flow.{Flow}
 use Rattle.rvv_meaning.specs.declared.Flow.TheVariants.{Call as Calls}
 use Rattle.rvv_meaning.specs.declared.Next.TheVariants.{Stop, Perform}
+use Rattle.rvv_meaning.specs.Elementwise.{is_ones}
 use Rattle.rvv_meaning.specs.Calls.{first, named_call, asked_by, put_by}
-use Rattle.rvv_meaning.specs.States.{Core, next, core_after, call_at, call_by, asked, puts, effect_at, with_effect, after_flow, executed_vector, called, reg}
+use Rattle.rvv_meaning.specs.States.{Core, next, core_after, call_at, call_by, asked, puts, effect_at, with_effect, after_flow, executed_vector, called, reg, vector_effect_at}
 use Rattle.rvv_meaning.specs.Operations.{operation_for}
+use Rattle.rvv_meaning.specs.VectorAccesses.{reads_memory, writes_memory}
 use Rattle.rvv_meaning.specs.Vectors.{is_on_elements}
 use Rattle.rvv_meaning.proofs.Calling.{Rests, executed-rests}
 use Rattle.guest_env.specs.Inputs.{Takes}
@@ -30,7 +33,7 @@ use Rattle.guest_env.specs.Outputs.{bytes_out, bytes_err, IsWritten}
 use Rattle.guest_env.proofs.Writing.{written-none}
 use Rattle.cape_io.specs.declared.devices.Sink.{Ghosts}
 use Rattle.vec_exec.specs.Programs.{is_engine, is_engine_op, is_opi_engine, is_opm_engine}
-use Rattle.machine.specs.Moments.{Held, program_for, program_at, slices_by, counts_by, control_by}
+use Rattle.machine.specs.Moments.{Held, program_for, program_at, loaded_at, with_registers, slices_by, counts_by, control_by}
 use Rattle.machine.specs.Views.{CallsAt, gains_out, gains_err}
 use Rattle.machine.specs.Carrying.{CarriesTaking, CallsTaking, call_out, call_err}
 
@@ -121,9 +124,40 @@ engine-runs (Opm op) form on = opm-runs op on
 engine-runs (Config op) form on = cc
 engine-runs (Memory op) form on = cc
 
+-- it is no load
+still_memory : (op : VOp) → is_on_elements op ≡ true → reads_memory op ≡ false
+unfolding operation_for
+still_memory (Opi op) on = refl
+still_memory (Opm op) on = refl
+still_memory (Config op) on = refl
+still_memory (Memory op) on = cc
+
 runs-program : (i : VInstr) → is_on_elements i.op ≡ true → is_engine i ≡ true
 unfolding is_engine
 runs-program i on = engine-runs i.op i.form on
+
+-- a load or a store has no program, and a store loads nothing
+abbrev is_memory : VOp → Bool
+is_memory (Memory op) = true
+is_memory op = false
+
+moves-memory : (op : VOp) → (reads_memory op ≡ true) ⊎ (writes_memory op ≡ true) → is_memory op ≡ true
+moves-memory (Memory op) which = refl
+moves-memory (Opi op) which = ⊎_elim (λ (no : false ≡ true). no) (λ (no : false ≡ true). no) which
+moves-memory (Opm op) which = ⊎_elim (λ (no : false ≡ true). no) (λ (no : false ≡ true). no) which
+moves-memory (Config op) which = ⊎_elim (λ (no : false ≡ true). no) (λ (no : false ≡ true). no) which
+
+no-program : (op : VOp) (form : Form) → is_memory op ≡ true → is_engine_op op form ≡ false
+no-program (Memory op) form memory = refl
+no-program (Opi op) form memory = absurd (false≢true memory)
+no-program (Opm op) form memory = absurd (false≢true memory)
+no-program (Config op) form memory = refl
+
+no-load : (op : VOp) → writes_memory op ≡ true → reads_memory op ≡ false
+no-load (Memory op) writes = rw writes refl
+no-load (Opi op) writes = refl
+no-load (Opm op) writes = refl
+no-load (Config op) writes = refl
 
 -- an instruction that is no call, by what comes at pc
 pub stop-quiet : (mode : Mode) (c : Core) → next c ≡ Stop mode → call_at c ≡ None
@@ -145,7 +179,7 @@ module _ (old new : Held) (v : DeviceViews) where
 
   -- the machine stopped
   pub carries-stop : (mode : Mode) → next old.core ≡ Stop mode → new ≡ record old { core = record old.core { mode = mode }; last = [] } → CarriesTaking old new [] same
-  unfolding core_after program_at
+  unfolding core_after program_at loaded_at
   carries-stop mode there is =
       rw is record {
         core = rw there refl;
@@ -161,7 +195,7 @@ module _ (old new : Held) (v : DeviceViews) where
   -- a scalar instruction that is no call
   pub carries-scalar : (i : Instr) (flow : Flow) → next old.core ≡ Perform (Scalar i) → (effect_at i old.core).flow ≡ flow → call_by flow old.core.regs ≡ None
       → new ≡ record old { core = after_flow flow (with_effect (effect_at i old.core) old.core) []; last = [] } → CarriesTaking old new [] same
-  unfolding core_after program_at
+  unfolding core_after program_at loaded_at
   carries-scalar i flow there goes plain is =
       rw is record {
         core = rw (there, goes) refl;
@@ -177,7 +211,7 @@ module _ (old new : Held) (v : DeviceViews) where
   -- a configuration
   pub carries-configuration : (op : ConfigOp) (i : VInstr) → next old.core ≡ Perform (Vector i) → i.op ≡ Config op → new ≡ record old { core = executed_vector i old.core; last = [] }
       → CarriesTaking old new [] same
-  unfolding core_after program_at is_engine
+  unfolding core_after program_at loaded_at is_engine
   carries-configuration op i there named is =
       rw is record {
         core = rw (there, named) refl;
@@ -199,16 +233,55 @@ module _ (old new : Held) (v : DeviceViews) where
       → new.control ≡ control_by (Some (program_for i old.core)) (slices_of old.chain) old.control
       → new.live ≡ old.live
       → CarriesTaking old new [] same
-  unfolding core_after program_at
+  unfolding core_after program_at loaded_at
   carries-program i there on core slices last counts control live =
       let runs = runs-program i on in
       record {
         core = core ∙ rw there refl;
-        slices = slices ∙ rw (there, runs) refl;
+        slices = slices ∙ rw (there, runs, still_memory i.op on) refl;
         last = last ∙ rw (there, runs) refl;
         counts = counts ∙ rw (there, runs) refl;
         control = control ∙ rw (there, runs) refl;
         live = live;
+        took = quiet_takes old.core v.input.left (vector-quiet i old.core there);
+        quiet = refl;
+      }
+
+  -- a load
+  pub carries-load : (i : VInstr) → next old.core ≡ Perform (Vector i) → reads_memory i.op ≡ true
+      → new.core ≡ executed_vector i old.core
+      → slices_of new.chain ≡ with_registers ((vector_effect_at i old.core).vectors (λ element. is_ones old.core.policy)) (slices_of old.chain)
+      → new ≡ record old { core = new.core; chain = new.chain; last = [] }
+      → new.chain.counts ≡ old.chain.counts
+      → CarriesTaking old new [] same
+  unfolding core_after program_at loaded_at is_engine
+  carries-load i there loads core slices rest counts =
+      let quiet = no-program i.op i.form (moves-memory i.op (inl loads)) in
+      record {
+        core = core ∙ rw there refl;
+        slices = slices ∙ rw (there, quiet, loads) refl;
+        last = ap (λ (h : Held). h.last) rest ∙ rw (there, quiet) refl;
+        counts = counts ∙ rw (there, quiet) refl;
+        control = ap (λ (h : Held). h.control) rest ∙ rw (there, quiet) refl;
+        live = ap (λ (h : Held). h.live) rest;
+        took = quiet_takes old.core v.input.left (vector-quiet i old.core there);
+        quiet = refl;
+      }
+
+  -- a store
+  pub carries-store : (i : VInstr) → next old.core ≡ Perform (Vector i) → writes_memory i.op ≡ true
+      → new ≡ record old { core = executed_vector i old.core; last = [] }
+      → CarriesTaking old new [] same
+  unfolding core_after program_at loaded_at is_engine
+  carries-store i there stores is =
+      let quiet = no-program i.op i.form (moves-memory i.op (inr stores)) in
+      rw is record {
+        core = rw there refl;
+        slices = rw (there, quiet, no-load i.op stores) refl;
+        last = rw (there, quiet) refl;
+        counts = rw (there, quiet) refl;
+        control = rw (there, quiet) refl;
+        live = refl;
         took = quiet_takes old.core v.input.left (vector-quiet i old.core there);
         quiet = refl;
       }
@@ -229,7 +302,7 @@ module _ (i : Instr) (c : Core) (there : next c ≡ Perform (Scalar i)) (is : (e
 -- a call that went
 pub carries-call : (old new : Held) (d : Devices) (i : Instr) → next old.core ≡ Perform (Scalar i) → (effect_at i old.core).flow ≡ Calls
     → old.last ≡ [] → (taken : List ℕ) → CallsTaking old new taken d → CarriesTaking old new taken d
-unfolding core_after program_at
+unfolding core_after program_at loaded_at
 carries-call old new d i there is none taken w =
     rw (emptied old new (called old.core taken) none w.leaves) record {
       core = rw (there, is, still i old.core is) refl;

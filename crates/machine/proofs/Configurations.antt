@@ -1,5 +1,5 @@
 -- The configuration that a machine holds is valid, and what a vector instruction leaves of the counts.
-use Rattle.std.proofs.Common.{◌≡◌, ◌+◌, ◌<◌, ◌≤◌, true, ◌⊎◌, inl, inr, [], Option, None, Some, refl, ap, arith}
+use Rattle.std.proofs.Common.{◌≡◌, ℕ, ◌+◌, ◌<◌, ◌≤◌, true, ◌⊎◌, inl, inr, [], Option, None, Some, refl, ap, arith}
 use Rattle.std.specs.Option.{option_map, option_map_or}
 use Rattle.std.specs.Prelude.{IsTrue, is_some, nat_le, nat_lt}
 use Rattle.std.proofs.lemmas.Bool.Decides.{nat_tests}
@@ -14,7 +14,7 @@ use Rattle.vtype_cfg.specs.declared.configuration.Cfg.{Cfg}
 use Rattle.vtype_cfg.specs.Settings.{is_legal_vlen, is_vill_or_supported, is_valid, vlmax}
 use Rattle.rvv_meaning.specs.Operations.{Operation, operation_for, on_elements}
 use Rattle.rvv_meaning.specs.States.{Core, cfg_at, after_flow, with_vector_effect, executed_vector}
-use Rattle.rvv_meaning.specs.Vectors.{VectorEffect, elements, scalar_operand, is_built, is_on_elements, configuration_effect, elements_effect, left_effect, no_effect, effect_by, vector_effect}
+use Rattle.rvv_meaning.specs.Vectors.{VectorEffect, elements, scalar_operand, is_built, is_on_elements, configuration_effect, elements_effect, access_outcome, flow_after, access_effect, left_effect, no_effect, effect_by, vector_effect}
 
 pub valid-cfg : (c : Cfg) → IsTrue (is_legal_vlen c.vlen) → IsTrue (is_vill_or_supported c.vtype) → c.vl ≤ vlmax c.vtype c.vlen → c.vstart < c.vlen → c.vxrm ≤ 3 → IsTrue (is_valid c)
 unfolding is_valid
@@ -24,14 +24,14 @@ valid-cfg c legal setting most starts rounding =
     let mode : nat_le c.vxrm 3 ≡ true = grind (arith, nat_tests) in
     rw (legal, setting, few, inside, mode) refl
 
--- of what is built all but the configurations is on elements
-pub elements-built : (op : VOp) → is_built op ≡ true → ((o : OpiOp) × (op ≡ Opi o)) ⊎ (((o : OpmOp) × (op ≡ Opm o)) ⊎ ((o : MemoryOp) × (op ≡ Moves o))) → is_on_elements op ≡ true
+-- of what is built all but configurations, loads and stores is on elements
+pub elements-built : (op : VOp) → is_built op ≡ true → ((o : OpiOp) × (op ≡ Opi o)) ⊎ ((o : OpmOp) × (op ≡ Opm o)) → is_on_elements op ≡ true
 elements-built (Opi o) built which = built
 elements-built (Opm o) built which = built
 elements-built (Config o) built (inl (x, is)) = cc
-elements-built (Config o) built (inr (inl (x, is))) = cc
-elements-built (Config o) built (inr (inr (x, is))) = cc
-elements-built (Moves o) built which = built
+elements-built (Config o) built (inr (x, is)) = cc
+elements-built (Moves o) built (inl (x, is)) = cc
+elements-built (Moves o) built (inr (x, is)) = cc
 
 -- ---- what a vector instruction leaves
 
@@ -40,23 +40,33 @@ module _ (i : VInstr) (c : Core) where
   abbrev left_with : VectorEffect → Core
   left_with e = after_flow e.flow (with_vector_effect e c) []
 
-  -- it retires, and a vector register is as long as before
+  -- it retires or stops, and a vector register is as long as before
   abbrev Retires : VectorEffect → Type 0
-  Retires e = ((left_with e).csrs.retired ≡ c.csrs.retired + 1) × ((left_with e).csrs.vlen ≡ c.csrs.vlen)
+  Retires e = ((left_with e).csrs.retired ≤ c.csrs.retired + 1) × ((left_with e).csrs.vlen ≡ c.csrs.vlen)
 
-  retires-for : (o : Option Operation) → Retires (option_map_or (left_effect i c.regs c.csrs c.mem c.vectors c.policy) (option_map (λ x. elements (on_elements i (cfg_at c) (scalar_operand i c.regs) x)) o) (no_effect i c.regs c.csrs c.mem c.vectors c.policy))
+  once : c.csrs.retired + 1 ≤ c.csrs.retired + 1
+  once = omega arith
+
+  retires-for : (o : Option Operation) → Retires (option_map_or (left_effect i c.pc c.regs c.csrs c.mem c.vectors c.policy) (option_map (λ x. elements (on_elements i (cfg_at c) (scalar_operand i c.regs) x)) o) (no_effect i c.pc c.regs c.csrs c.mem c.vectors c.policy))
   unfolding elements_effect
-  retires-for None = (refl, refl)
-  retires-for (Some o) = (refl, refl)
+  retires-for None = (once, refl)
+  retires-for (Some o) = (once, refl)
 
-  retires-by : (op : VOp) → Retires (effect_by i c.regs c.csrs c.mem c.vectors c.policy op)
-  unfolding configuration_effect
-  retires-by (Config op) = (refl, refl)
+  retires-access : (op : MemoryOp) (o : Option (ℕ × ℕ))
+      → ((after_flow (flow_after i c.pc c.regs c.csrs c.mem c.vectors c.policy op o) (with_vector_effect (access_effect i c.pc c.regs c.csrs c.mem c.vectors c.policy op) c) []).csrs.retired ≤ c.csrs.retired + 1)
+      × ((after_flow (flow_after i c.pc c.regs c.csrs c.mem c.vectors c.policy op o) (with_vector_effect (access_effect i c.pc c.regs c.csrs c.mem c.vectors c.policy op) c) []).csrs.vlen ≡ c.csrs.vlen)
+  unfolding access_effect
+  retires-access op None = (once, refl)
+  retires-access op (Some stop) = (omega arith, refl)
+
+  retires-by : (op : VOp) → Retires (effect_by i c.pc c.regs c.csrs c.mem c.vectors c.policy op)
+  unfolding configuration_effect access_effect
+  retires-by (Config op) = (once, refl)
   retires-by (Opi op) = retires-for (operation_for (Opi op))
   retires-by (Opm op) = retires-for (operation_for (Opm op))
-  retires-by (Moves op) = retires-for (operation_for (Moves op))
+  retires-by (Moves op) = retires-access op (access_outcome i c.pc c.regs c.csrs c.mem c.vectors c.policy).fault
 
-  pub vector-retires : (executed_vector i c).csrs.retired ≡ c.csrs.retired + 1
+  pub vector-retires : (executed_vector i c).csrs.retired ≤ c.csrs.retired + 1
   unfolding vector_effect
   vector-retires = (retires-by i.op).0
 
@@ -65,13 +75,13 @@ module _ (i : VInstr) (c : Core) where
   vector-length = (retires-by i.op).1
 
   -- a configuration
-  pub configured-is : (op : ConfigOp) → i.op ≡ Config op → executed_vector i c ≡ left_with (configuration_effect i c.regs c.csrs c.mem c.vectors c.policy op)
+  pub configured-is : (op : ConfigOp) → i.op ≡ Config op → executed_vector i c ≡ left_with (configuration_effect i c.pc c.regs c.csrs c.mem c.vectors c.policy op)
   unfolding vector_effect
   configured-is op named = rw named refl
 
   -- an instruction on elements
   elements-by : (o : Operation) (op : VOp) → operation_for op ≡ Some o
-      → effect_by i c.regs c.csrs c.mem c.vectors c.policy op ≡ elements_effect i c.regs c.csrs c.mem c.vectors c.policy (on_elements i (cfg_at c) (scalar_operand i c.regs) o)
+      → effect_by i c.pc c.regs c.csrs c.mem c.vectors c.policy op ≡ elements_effect i c.pc c.regs c.csrs c.mem c.vectors c.policy (on_elements i (cfg_at c) (scalar_operand i c.regs) o)
   unfolding operation_for
   elements-by o (Config op) is = cc
   elements-by o (Opi op) is = rw is refl
@@ -79,7 +89,7 @@ module _ (i : VInstr) (c : Core) where
   elements-by o (Moves op) is = cc
 
   pub on-elements-is : (o : Operation) → operation_for i.op ≡ Some o
-      → executed_vector i c ≡ left_with (elements_effect i c.regs c.csrs c.mem c.vectors c.policy (on_elements i (cfg_at c) (scalar_operand i c.regs) o))
+      → executed_vector i c ≡ left_with (elements_effect i c.pc c.regs c.csrs c.mem c.vectors c.policy (on_elements i (cfg_at c) (scalar_operand i c.regs) o))
   unfolding vector_effect
   on-elements-is o is = ap left_with (elements-by o i.op is)
 

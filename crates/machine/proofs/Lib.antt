@@ -8,3 +8,5 @@ pub mod Runs
 pub mod Modes
 pub mod Engine
 pub mod Configurations
+pub mod Accessed
+pub mod Following

@@ -11,14 +11,14 @@ use Rattle.rvv_meaning.specs.Calls.{first}
 use Rattle.rvv_meaning.specs.States.{Core, core_after, called, asked}
 use Rattle.machine.specs.declared.answers.DeviceFault.{DeviceFault}
 use Rattle.machine.specs.declared.answers.DeviceFault.TheVariants.{ReadFault, WriteFault}
-use Rattle.machine.specs.Moments.{Held, program_at, slices_by, last_by, counts_by, control_by}
+use Rattle.machine.specs.Moments.{Held, program_at, loaded_at, with_loaded, slices_by, last_by, counts_by, control_by}
 use Rattle.machine.specs.Views.{AsksFor, LeavesMemory}
 
 -- A step was carried out that took these bytes of the input: the core is the one that the meaning gives, the slices are
--- the replay of the instruction's program, and the counts gained its searches, updates and passes. The input did not fail.
+-- the replay of the instruction's program, or have the registers of a load, and the counts gained its searches, updates and passes. The input did not fail.
 pub record CarriesTaking (old new : Held) (taken : List ℕ) (d : Devices) : Type 0 where
   pub core : new.core ≡ core_after old.core taken
-  pub slices : slices_of new.chain ≡ slices_by (program_at old.core) (slices_of old.chain)
+  pub slices : slices_of new.chain ≡ with_loaded (loaded_at old.core) (slices_by (program_at old.core) (slices_of old.chain))
   pub last : new.last ≡ last_by (program_at old.core)
   pub counts : new.chain.counts ≡ counts_by (program_at old.core) old.chain.counts
   pub control : new.control ≡ control_by (program_at old.core) (slices_of old.chain) old.control

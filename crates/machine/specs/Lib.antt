@@ -4,4 +4,6 @@ pub mod Views
 pub mod Answers
 pub mod Fields
 pub mod Carrying
+pub mod Accessing
+pub mod Resuming
 pub mod Opening

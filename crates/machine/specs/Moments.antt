@@ -1,9 +1,12 @@
 -- Moments of a machine: its state with the state of its slices, the program of its last step, its counts and its control
 -- numbers.
-use Rattle.std.specs.Prelude.{ℕ, zero, suc, ◌/◌, Bool, false, List, [], Option, Some, None, if◌then◌else◌}
-use Rattle.bit_rows.specs.Slices.{Slices, blank}
+use Rattle.std.specs.Prelude.{ℕ, zero, suc, ◌+◌, ◌*◌, ◌/◌, ◌%◌, cond, ◌&&◌, Bool, true, false, List, [], Option, Some, None, if◌then◌else◌}
+use lib.Dec.{ltb}
+use Rattle.bit_laws.specs.Numbers.{bit_of}
+use Rattle.bit_rows.specs.Slices.{Slices, blank, placed}
 use Rattle.cam_chain.specs.ChainValue.{ChainValue, no_counts}
 use Rattle.cam_chain.specs.declared.counts.Counts.{Counts}
+use Rattle.element_ops.specs.Elements.{byte_at}
 use Rattle.micro_ir.specs.declared.control.Control.{Control}
 use Rattle.micro_ir.specs.declared.op.MicroOp.{MicroOp}
 use Rattle.micro_ir.specs.Replay.{replay, clips, tally, counts_and}
@@ -11,7 +14,9 @@ use Rattle.rvv_decode.specs.declared.instruction.VInstr.{VInstr}
 use Rattle.rvv_meaning.specs.declared.Meaning.TheVariants.{Scalar, Vector}
 use Rattle.rvv_meaning.specs.declared.Next.{Next}
 use Rattle.rvv_meaning.specs.declared.Next.TheVariants.{Stop, Perform}
-use Rattle.rvv_meaning.specs.States.{Core, State, cfg_at, next, step, is_running}
+use Rattle.rvv_meaning.specs.Elementwise.{is_ones}
+use Rattle.rvv_meaning.specs.States.{Core, State, cfg_at, next, step, is_running, vector_effect_at}
+use Rattle.rvv_meaning.specs.VectorAccesses.{reads_memory}
 use Rattle.rvv_meaning.specs.Vectors.{scalar_operand}
 use Rattle.vec_exec.specs.Programs.{prog, is_engine}
 
@@ -47,8 +52,35 @@ program_of (Perform (Vector i)) c = if is_engine i then Some (program_for i c) e
 unfoldable pub program_at : Core → Option (List MicroOp)
 program_at c = program_of (next c) c
 
--- The slices after a step. A program is replayed from the control number 0, which belongs to the replay; no other
--- instruction that is built writes a vector register, so the slices stay.
+-- the slices whose registers hold these bytes, where bit b of byte j of register r is the bit of subarray 8 (j mod 4) + b, row r,
+-- column j div 4; all else stays
+unfoldable pub with_registers : List (List ℕ) → Slices → Slices
+with_registers v s = record s {
+  bit = λ sub row col. cond (placed s.columns sub col && ltb row 32) (bit_of (byte_at v row (4 * col + sub / 8)) (sub % 8)) (s.bit sub row col);
+}
+
+-- the registers that a load leaves
+abbrev pub loaded_by : Bool → VInstr → Core → Option (List (List ℕ))
+loaded_by true i c = Some ((vector_effect_at i c).vectors (λ element. is_ones c.policy))
+loaded_by false i c = None
+
+-- the registers that an instruction leaves, where it is a load
+abbrev pub loaded_of : Next → Core → Option (List (List ℕ))
+loaded_of (Stop mode) c = None
+loaded_of (Perform (Scalar i)) c = None
+loaded_of (Perform (Vector i)) c = loaded_by (reads_memory i.op) i c
+
+-- the registers that the instruction at pc leaves, where it is a load
+unfoldable pub loaded_at : Core → Option (List (List ℕ))
+loaded_at c = loaded_of (next c) c
+
+-- The slices after a load: their registers are those that it leaves, and all else stays.
+abbrev pub with_loaded : Option (List (List ℕ)) → Slices → Slices
+with_loaded None s = s
+with_loaded (Some v) s = with_registers v s
+
+-- The slices after a program, which is replayed from the control number 0, that belongs to the replay. Where there is none,
+-- they stay.
 abbrev pub slices_by : Option (List MicroOp) → Slices → Slices
 slices_by None s = s
 slices_by (Some ops) s = record (replay ops (record s { num = 0 })) { num = 0 }
@@ -77,7 +109,7 @@ last_by (Some ops) = ops
 unfoldable pub moment_after : Moment → Moment
 moment_after m = record {
   state = step m.state;
-  slices = slices_by (program_at m.state.core) m.slices;
+  slices = with_loaded (loaded_at m.state.core) (slices_by (program_at m.state.core) m.slices);
   last = last_by (program_at m.state.core);
   counts = counts_by (program_at m.state.core) m.counts;
   control = control_by (program_at m.state.core) m.slices m.control;

@@ -2,9 +2,11 @@
 //! the slices of an associative memory, and its vector instructions are replays of programs of micro-operations.
 #![tactic(auto)]
 
+mod accesses;
 mod answers;
 mod fetching;
 mod parts;
+mod resuming;
 mod steps;
 mod vectors;
 

@@ -31,7 +31,7 @@ impl Machine {
     }
 
     // The machine stops.
-    fn stop(&mut self, mode: Mode)
+    pub(crate) fn stop(&mut self, mode: Mode)
         ensures { self.new ≡ record self.old { core = record self.old.core { mode = mode } } }
     {
         self.mode = mode;

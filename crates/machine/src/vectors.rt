@@ -1,4 +1,4 @@
-// Vector instructions: configurations, and programs of micro-operations.
+// Vector instructions: configurations, loads and stores, and programs of micro-operations.
 ghost use Rattle.std.specs.Prelude.{◌≡◌, ◌+◌, ◌<◌, ◌≤◌, ◌^◌, ℕ, List, [], Some, true, length, IsTrue, Bool, Option};
 ghost use Rattle.cape_io.specs.Views.{DeviceViews};
 ghost use Rattle.cam_chain.specs.ChainValue.{slices_of};
@@ -137,7 +137,8 @@ impl Machine {
     {
         match i.op {
             VOp::Config(op) => self.configure(op, i),
-            VOp::Opi(_) | VOp::Opm(_) | VOp::Memory(_) => self.run_program(i),
+            VOp::Memory(op) => self.access(op, i),
+            VOp::Opi(_) | VOp::Opm(_) => self.run_program(i),
         }
     }
 }

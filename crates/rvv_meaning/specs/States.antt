@@ -143,7 +143,7 @@ executed_scalar i c taken = after_flow (effect_at i c).flow (with_effect (effect
 -- the effect of a vector instruction on the machine, and the machine with it: under the policy each agnostic element becomes all
 -- ones, or none does
 abbrev pub vector_effect_at : VInstr → Core → VectorEffect
-vector_effect_at i c = vector_effect i c.regs c.csrs c.mem c.vectors c.policy
+vector_effect_at i c = vector_effect i c.pc c.regs c.csrs c.mem c.vectors c.policy
 
 abbrev pub with_vector_effect : VectorEffect → Core → Core
 with_vector_effect e c = record c { regs = e.regs; csrs = e.csrs; mem = e.mem; vectors = e.vectors (λ element. is_ones c.policy) }

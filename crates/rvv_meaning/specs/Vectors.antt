@@ -1,14 +1,15 @@
--- What a vector instruction leaves: one effect for all, configurations among them.
-use Rattle.std.specs.Prelude.{◌==◌, not, ◌||◌, ℕ, Bool, true, false, List, Option, is_some, slice_index, if◌then◌else◌}
+-- What a vector instruction leaves: one effect for all, configurations, loads and stores among them.
+use Rattle.std.specs.Prelude.{◌==◌, not, ◌||◌, ℕ, Bool, true, false, List, Option, None, Some, is_some, slice_index, if◌then◌else◌}
 use Rattle.std.specs.Option.{option_map, option_map_or}
 use Rattle.guest_mem.specs.Pages.{Memory}
 use Rattle.rvv_decode.specs.declared.instruction.ConfigOp.{ConfigOp}
 use Rattle.rvv_decode.specs.declared.instruction.ConfigOp.TheVariants.{Vsetvli, Vsetivli, Vsetvl}
 use Rattle.rvv_decode.specs.declared.instruction.Form.{Form}
 use Rattle.rvv_decode.specs.declared.instruction.Form.TheVariants.{V, X, I}
+use Rattle.rvv_decode.specs.declared.instruction.MemoryOp.{MemoryOp}
 use Rattle.rvv_decode.specs.declared.instruction.VInstr.{VInstr}
 use Rattle.rvv_decode.specs.declared.instruction.VOp.{VOp}
-use Rattle.rvv_decode.specs.declared.instruction.VOp.TheVariants.{Config}
+use Rattle.rvv_decode.specs.declared.instruction.VOp.TheVariants.{Config, Memory as Moves}
 use Rattle.vtype_cfg.specs.declared.configuration.Avl.{Avl}
 use Rattle.vtype_cfg.specs.declared.configuration.Avl.TheVariants.{Given, Max, Keep}
 use Rattle.vtype_cfg.specs.declared.configuration.Cfg.{Cfg}
@@ -17,10 +18,13 @@ use Rattle.vtype_cfg.specs.declared.vtype.Vtype.{Vtype}
 use Rattle.vtype_cfg.specs.Settings.{vtype_of, bits_of, configured}
 use Rattle.rvv_meaning.specs.declared.Csrs.{Csrs}
 use Rattle.rvv_meaning.specs.declared.Flow.{Flow}
-use Rattle.rvv_meaning.specs.declared.Flow.TheVariants.{Next}
+use Rattle.rvv_meaning.specs.declared.Flow.TheVariants.{Next, Trap as Traps}
 use Rattle.rvv_meaning.specs.Elementwise.{Elementwise, cfg_of, registers_by, clips}
+use Rattle.rvv_meaning.specs.LoadsAndStores.{Outcome, outcome}
 use Rattle.rvv_meaning.specs.Operations.{operation_for, on_elements}
+use Rattle.rvv_meaning.specs.Scalar.{load_fault, store_fault}
 use Rattle.rvv_meaning.specs.Scalar.Registers.{written}
+use Rattle.rvv_meaning.specs.VectorAccesses.{is_store}
 
 -- What a vector instruction leaves: where the program goes on, the scalar registers, the control registers, the memory, and
 -- the vector registers, where `ones` says which of the agnostic elements become all ones, element by element.
@@ -77,11 +81,12 @@ is_on_elements op = is_some (operation_for op)
 -- whether an instruction is built
 abbrev pub is_built : VOp → Bool
 is_built (Config op) = true
+is_built (Moves op) = true
 is_built op = is_on_elements op
 
--- What an instruction finds: the scalar registers, the control registers, the memory, the vector registers, and what becomes
--- of agnostic elements.
-module _ (i : VInstr) (regs : List ℕ) (csrs : Csrs) (mem : Memory) (vectors : List (List ℕ)) (policy : Policy) where
+-- What an instruction finds: its place, the scalar registers, the control registers, the memory, the vector registers, and
+-- what becomes of agnostic elements.
+module _ (i : VInstr) (pc : ℕ) (regs : List ℕ) (csrs : Csrs) (mem : Memory) (vectors : List (List ℕ)) (policy : Policy) where
   -- the control registers after an instruction that completes: vstart is 0, and vxsat is set where an element was clipped
   abbrev pub completed : (clipped : Bool) → Csrs
   completed clipped = record csrs { vstart = 0; vxsat = csrs.vxsat || clipped }
@@ -117,6 +122,25 @@ module _ (i : VInstr) (regs : List ℕ) (csrs : Csrs) (mem : Memory) (vectors : 
   left_effect (elements e) = elements_effect e
   left_effect (number n) = number_effect n
 
+  -- what a load or a store leaves that finds a base in x[rs1] and a stride in x[rs2]
+  abbrev pub access_outcome : Outcome
+  access_outcome = outcome i (cfg_of csrs policy) (slice_index regs i.vs1) (slice_index regs i.vs2) vectors mem.pages
+
+  -- where the program goes on after it: where it stopped at an element it traps, and the value is the first bad address
+  abbrev pub flow_after : MemoryOp → Option (ℕ × ℕ) → Flow
+  flow_after op None = Next
+  flow_after op (Some stop) = Traps record { cause = if is_store op then store_fault else load_fault; pc = pc; value = stop.1 }
+
+  -- a load or a store; at a trap the elements that were moved stay so, and vstart is the element that it stopped at
+  unfoldable pub access_effect : MemoryOp → VectorEffect
+  access_effect op = record {
+    flow = flow_after op access_outcome.fault;
+    regs = regs;
+    csrs = record csrs { vstart = access_outcome.cfg.vstart; vl = access_outcome.cfg.vl };
+    mem = record mem { pages = access_outcome.pages };
+    vectors = access_outcome.vectors;
+  }
+
   -- an instruction that is not built: no step carries one out
   abbrev pub no_effect : VectorEffect
   no_effect = record { flow = Next; regs = regs; csrs = csrs; mem = mem; vectors = λ ones. vectors }
@@ -124,6 +148,7 @@ module _ (i : VInstr) (regs : List ℕ) (csrs : Csrs) (mem : Memory) (vectors : 
   -- what the instruction leaves
   abbrev pub effect_by : VOp → VectorEffect
   effect_by (Config op) = configuration_effect op
+  effect_by (Moves op) = access_effect op
   effect_by op = option_map_or left_effect (left_by op i (cfg_of csrs policy) (scalar_operand i regs) vectors) no_effect
 
   unfoldable pub vector_effect : VectorEffect

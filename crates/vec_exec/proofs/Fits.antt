@@ -5,6 +5,7 @@ use Rattle.std.specs.Int.{int_shr, int_div_euclid}
 use Rattle.rvv_decode.specs.declared.instruction.OpiOp.TheVariants.{Vadd, Vsub, Vrsub, Vadc, Vsbc, Vmadc, Vmsbc, Vand, Vor, Vxor, Vsll, Vsrl, Vsra, Vmseq, Vmsne, Vmsltu, Vmslt, Vmsleu, Vmsle, Vmsgtu, Vmsgt, Vminu, Vmin, Vmaxu, Vmax, Vmerge, VmvV}
 use Rattle.rvv_decode.specs.declared.instruction.OpmOp.TheVariants.{Vdivu, Vdiv, Vremu, Vrem, Vmulhu, Vmul, Vmulhsu, Vmulh, Vmadd, Vnmsub, Vmacc, Vnmsac}
 use Rattle.rvv_decode.specs.declared.instruction.ConfigOp.{ConfigOp}
+use Rattle.rvv_decode.specs.declared.instruction.MemoryOp.{MemoryOp}
 use Rattle.rvv_decode.specs.declared.instruction.VOp.{VOp}
 use Rattle.rvv_decode.specs.declared.instruction.VOp.TheVariants.{Opi, Opm, Config, Memory}
 use Rattle.vtype_cfg.specs.Classes.{Class, class_of, opi_class, opm_class, compare}
@@ -179,9 +180,9 @@ fitted op r named = from (operation_for op) refl (rw named at (fits op))
     from (Some o) is h = record { operation = o; is = is; fits = h }
     from None is h = absurd h
 
--- an operation of no configuration is built where it has a recipe
-pub built-by-recipe : (op : VOp) → ((config : ConfigOp) → op ≡ Config config → ⊥) → is_some (recipe_for op) ≡ is_built op
-built-by-recipe (Opi op) other = recipe-when-built (Opi op)
-built-by-recipe (Opm op) other = recipe-when-built (Opm op)
-built-by-recipe (Memory op) other = recipe-when-built (Memory op)
-built-by-recipe (Config op) other = absurd (other op refl)
+-- an operation of no configuration, load or store is built where it has a recipe
+pub built-by-recipe : (op : VOp) → ((config : ConfigOp) → op ≡ Config config → ⊥) → ((access : MemoryOp) → op ≡ Memory access → ⊥) → is_some (recipe_for op) ≡ is_built op
+built-by-recipe (Opi op) other apart = recipe-when-built (Opi op)
+built-by-recipe (Opm op) other apart = recipe-when-built (Opm op)
+built-by-recipe (Memory op) other apart = absurd (apart op refl)
+built-by-recipe (Config op) other apart = absurd (other op refl)

@@ -49,11 +49,11 @@ fn registers(cfg: &Cfg) -> u8
     (cfg.vtype.lmul8 / EIGHTHS).max(1)
 }
 
-/// Whether an instruction is built: one of configuration, or one whose operation has a recipe.
+/// Whether an instruction is built: one of configuration, a load, a store, or one whose operation has a recipe.
 pub fn built(i: &VInstr) -> bool
     ensures value { result ≡ is_built i.now.op }
 {
-    matches!(i.op, VOp::Config(_)) || recipe_of(i.op).is_some()
+    matches!(i.op, VOp::Config(_) | VOp::Memory(_)) || recipe_of(i.op).is_some()
 }
 
 // The operations that put the scalar into its row, where the instruction has one.

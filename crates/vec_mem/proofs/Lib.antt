@@ -13,4 +13,5 @@ pub mod Legal
 pub mod Outcomes
 pub mod Resuming
 pub mod Restoring
+pub mod GoingOn
 mod Examples

@@ -13,12 +13,13 @@ use Rattle.vtype_cfg.specs.declared.configuration.Cfg.{Cfg}
 use Rattle.rvv_meaning.specs.declared.accesses.Offset.{Offset}
 use Rattle.rvv_meaning.specs.declared.accesses.Offset.TheVariants.{Step, Index}
 use Rattle.rvv_meaning.specs.declared.accesses.Access.{Access}
-use Rattle.rvv_meaning.specs.LoadsAndStores.{element_size, distance, is_unmasked, address, bad, moved, stop, done_below, byte_stored, bytes_of, stored_all, pages_stored}
+use Rattle.rvv_meaning.specs.LoadsAndStores.{element_size, distance, is_unmasked, address, bad, moved, stop, done_below, byte_stored, bytes_of, stored_all, pages_stored, stores}
+use Rattle.vec_mem.specs.Resumption.{AsOnce}
 use Rattle.vec_mem.specs.Steps.{Fits}
 use Rattle.vec_mem.proofs.Finding.{find-same, find-range, find-before, find-skips}
 use Rattle.guest_mem.specs.Mapping.{Extends, SamePerms}
 use Rattle.guest_mem.proofs.Mapping.{range-same, same-written, bad-by-perms, perms-put_in, put-mapped, get-added}
-use Rattle.vec_mem.proofs.Resuming.{resumed, some-none}
+use Rattle.vec_mem.proofs.Resuming.{resumed, some-none, told}
 
 -- a page that is added leaves the others
 pub added-extends : (p : Pages) (q : ℕ) → Extends p (with_page p q)
@@ -203,3 +204,14 @@ module _ (c : Cfg) (t : Access) (fits : Fits c t) (base : ℕ) (v : List (List �
       stored-same stopped (chosen c t base v d i (t.len - i))
       ∙ ap (λ (r : Pages). stored_all c t base v r (chosen c t base v d i (t.len - i))) stopped-is
       ∙ sym (rw split (fold-split c t base v whole d i c.vstart done left start done-later ∙ rw left-is refl)))
+
+  bad-again : (x : ℕ) → bad (resumed c i) t base v 2 stopped x ≡ bad c t base v 2 whole x
+  unfolding bad
+  bad-again x = bad-by-perms stopped whole 2 (address (resumed c i) t base v x) (element_size t) same-perms ∙ ap (λ (a : ℕ). first_bad whole 2 a (element_size t)) (same-address x)
+
+  -- and so all that it leaves
+  pub stores-resumed : (ones : ℕ → Bool) → AsOnce ones (stores (resumed c i) t base v stopped) (stores c t base v whole)
+  unfolding stores
+  stores-resumed ones =
+      let both = told c t i (bad (resumed c i) t base v 2 stopped) (bad c t base v 2 whole) (stop c t base v 2 whole) (λ x found. bad-again x) in
+      record { cfg = rw stop-again both.0; vectors = refl; pages = pages-again; fault = rw stop-again both.1 }

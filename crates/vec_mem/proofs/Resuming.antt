@@ -12,8 +12,9 @@ use Rattle.rvv_meaning.specs.Elementwise.{size_of, is_ones}
 use Rattle.rvv_meaning.specs.declared.accesses.Offset.{Offset}
 use Rattle.rvv_meaning.specs.declared.accesses.Offset.TheVariants.{Step, Index}
 use Rattle.rvv_meaning.specs.declared.accesses.Access.{Access}
-use Rattle.rvv_meaning.specs.LoadsAndStores.{field_size, element_size, per_field, distance, address, field_address, is_unmasked, moved, bad, stop, done_below, trapped, traps_at, cfg_after, place, field_in_memory, old_slot, slot_at_place, slot_after, loaded_by, registers_loaded, Outcome, with_address, loads}
+use Rattle.rvv_meaning.specs.LoadsAndStores.{field_size, element_size, per_field, distance, address, field_address, is_unmasked, moved, bad, stop, done_below, trapped, traps_at, cfg_after, place, field_in_memory, old_slot, slot_at_place, slot_after, loaded_by, registers_loaded, with_address, loads}
 use Rattle.std.specs.Option.{option_map}
+use Rattle.vec_mem.specs.Resumption.{AsOnce}
 use Rattle.vec_mem.specs.Steps.{Fits, FitsLoad}
 use Rattle.vec_mem.proofs.Numbering.{part-none}
 use Rattle.element_ops.proofs.Groups.{elements-same, elements-over, low-low}
@@ -31,12 +32,16 @@ pub some-none : (b : Option ℕ) → is_some b ≡ false → b ≡ None
 some-none None is = refl
 some-none (Some a) is = cc
 
--- two outcomes are the same, where `ones` says which of the agnostic elements become all ones
-pub record AsOnce (ones : ℕ → Bool) (a b : Outcome) : Type 0 where
-  pub cfg : a.cfg ≡ b.cfg
-  pub vectors : a.vectors ones ≡ b.vectors ones
-  pub pages : a.pages ≡ b.pages
-  pub fault : a.fault ≡ b.fault
+-- what a stop leaves beside registers and pages, by its first bad addresses
+pub told : (c : Cfg) (t : Access) (i : ℕ) (b d : ℕ → Option ℕ) (o : Option ℕ) → ((x : ℕ) → o ≡ Some x → b x ≡ d x)
+    → (cfg_after (resumed c i) t o ≡ cfg_after c t o) × (option_map (with_address b) (trapped t o) ≡ option_map (with_address d) (trapped t o))
+unfolding cfg_after
+told c t i b d None same = (refl, refl)
+told c t i b d (Some x) same = (refl, by (traps_at t x))
+  where
+    by : (m : Bool) → option_map (with_address b) (cond m (Some x) None) ≡ option_map (with_address d) (cond m (Some x) None)
+    by true = rw (same x refl) refl
+    by false = refl
 
 module _ (c : Cfg) (t : Access) (n : ℕ) (words : size_of c ≡ 4 * n) (fits : Fits c t) (load : FitsLoad c t) (base : ℕ) (v : List (List ℕ)) (pages more : Pages) (are : AreRegisters (size_of c) v) (some : 0 < n) (i : ℕ) (at : stop c t base v 4 pages ≡ Some i) (extends : Extends pages more) where
   abbrev ones : Bool
@@ -184,19 +189,9 @@ module _ (c : Cfg) (t : Access) (n : ℕ) (words : size_of c ≡ 4 * n) (fits : 
       let h = find-range (λ e. is_some (first_bad more 4 (address (resumed c i) t base w e) (element_size t))) (is_unmasked (resumed c i) t base w) i (t.len - i) x (stop-resumed ∙ found) in
       ap (λ (a : ℕ). first_bad more 4 a (element_size t)) (address-later x h.0 (omega (arith, h.0, h.1)))
 
-  told : (o : Option ℕ) → ((x : ℕ) → o ≡ Some x → bad (resumed c i) t base w 4 more x ≡ bad c t base v 4 more x)
-      → (cfg_after (resumed c i) t o ≡ cfg_after c t o) × (option_map (with_address (bad (resumed c i) t base w 4 more)) (trapped t o) ≡ option_map (with_address (bad c t base v 4 more)) (trapped t o))
-  unfolding cfg_after
-  told None same = (refl, refl)
-  told (Some x) same = (refl, by (traps_at t x))
-    where
-      by : (m : Bool) → option_map (with_address (bad (resumed c i) t base w 4 more)) (cond m (Some x) None) ≡ option_map (with_address (bad c t base v 4 more)) (cond m (Some x) None)
-      by true = rw (same x refl) refl
-      by false = refl
-
   -- The load that goes on leaves what one load over all the pages leaves.
   pub loads-resumed : AsOnce (λ s. ones) (loads (resumed c i) t base w more) (loads c t base v more)
   unfolding loads
   loads-resumed =
-      let both = told (stop c t base v 4 more) later-bad in
+      let both = told c t i (bad (resumed c i) t base w 4 more) (bad c t base v 4 more) (stop c t base v 4 more) later-bad in
       record { cfg = rw stop-resumed both.0; vectors = registers-resumed; pages = refl; fault = rw stop-resumed both.1 }

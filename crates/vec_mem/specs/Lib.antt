@@ -1,3 +1,4 @@
 -- What loads and stores do to the registers of a chain and to memory.
 pub mod Views
 pub mod Steps
+pub mod Resumption

@@ -12,6 +12,7 @@ ghost use Rattle.rvv_meaning.specs.Elementwise.{is_ones};
 ghost use Rattle.rvv_meaning.specs.LoadsAndStores.{outcome};
 ghost use Rattle.rvv_meaning.specs.Scalar.{load_fault, store_fault};
 ghost use Rattle.rvv_meaning.specs.VectorAccesses.{reads_memory, writes_memory};
+ghost use Rattle.vec_mem.specs.Resumption.{ResumeLaw};
 ghost use Rattle.vec_mem.specs.Views.{vectors_of};
 
 mod elements;
@@ -101,3 +102,9 @@ pub fn store(
         _ => Ok(()),
     }
 }
+
+/// A load or a store that trapped goes on: from the element of its fault, over what it left with one more page mapped, it is
+/// legal and leaves what it leaves that has the page mapped before.
+pub fn resume_law()
+    ensures law { ResumeLaw }
+{}

@@ -13,8 +13,9 @@ returns-in-Config-clause-carries c = λ v.
 
 pub returns-in-Config-clause-count : goal.returns-in-Config-clause-count
 returns-in-Config-clause-count c =
-    let retired = ap (λ (h : Held). h.core.csrs.retired) c.configure.ensures ∙ vector-retires c.args.i.now c.args.self.now.core in
-    omega (arith, retired)
+    let retired = ap (λ (h : Held). h.core.csrs.retired) c.configure.ensures in
+    let few = vector-retires c.args.i.now c.args.self.now.core in
+    omega arith
 
 pub returns-in-Config-clause-length : goal.returns-in-Config-clause-length
 returns-in-Config-clause-length c = ap (λ (h : Held). h.core.csrs.vlen) c.configure.ensures ∙ vector-length c.args.i.now c.args.self.now.core
@@ -22,10 +23,11 @@ returns-in-Config-clause-length c = ap (λ (h : Held). h.core.csrs.vlen) c.confi
 pub returns-in-Opi : goal.returns-in-Opi
 returns-in-Opi c =
     let on : is_on_elements c.args.i.now.op ≡ true = elements-built c.args.i.now.op c.requires.fits.built c.in-Opi.is in
-    let retired = ap (λ (k : Core). k.csrs.retired) c.run_program.ensures.core ∙ vector-retires c.args.i.now c.args.self.now.core in
+    let retired = ap (λ (k : Core). k.csrs.retired) c.run_program.ensures.core in
+    let few = vector-retires c.args.i.now c.args.self.now.core in
     record {
       carries = λ v.
           carries-program c.args.self.now c.run_program.new.self v c.args.i.now c.requires.there on c.run_program.ensures.core c.run_program.ensures.slices c.run_program.ensures.last c.run_program.ensures.counts c.run_program.ensures.control c.run_program.ensures.live;
-      count = omega (arith, retired);
+      count = omega arith;
       length = ap (λ (k : Core). k.csrs.vlen) c.run_program.ensures.core ∙ vector-length c.args.i.now c.args.self.now.core;
     }
