@@ -29,12 +29,12 @@ pub record Keeps (reads writes : Bool) (c : Cfg) (v : List (List ℕ)) (p : Page
 module _ (i : VInstr) (c : Cfg) (base stride : ℕ) (v : List (List ℕ)) (p : Pages) where
   keeps-by : (op : VOp) → Keeps (reads_memory op) (writes_memory op) c v p (outcome_by op i c base stride v p)
   unfolding loads stores cfg_after
-  keeps-by (Opi op) = record { vtype = refl; vlen = refl; pages = λ no. refl; vectors = λ no ones. refl }
-  keeps-by (Opm op) = record { vtype = refl; vlen = refl; pages = λ no. refl; vectors = λ no ones. refl }
-  keeps-by (Config op) = record { vtype = refl; vlen = refl; pages = λ no. refl; vectors = λ no ones. refl }
+  keeps-by (Opi op) = record { vtype = refl; vlen = refl; pages = λ never. refl; vectors = λ never ones. refl }
+  keeps-by (Opm op) = record { vtype = refl; vlen = refl; pages = λ never. refl; vectors = λ never ones. refl }
+  keeps-by (Config op) = record { vtype = refl; vlen = refl; pages = λ never. refl; vectors = λ never ones. refl }
   keeps-by (Memory op) = elim (is_store op) as (λ b. Keeps (not b) b c v p (if b then stores c (access_of op i c stride) base v p else loads c (access_of op i c stride) base v p)) [
-    | true ↦ record { vtype = refl; vlen = refl; pages = λ no. absurd (false≢true no); vectors = λ yes ones. refl }
-    | false ↦ record { vtype = refl; vlen = refl; pages = λ yes. refl; vectors = λ no. absurd (false≢true no) }
+    | true ↦ record { vtype = refl; vlen = refl; pages = λ never. absurd (false≢true never); vectors = λ is ones. refl }
+    | false ↦ record { vtype = refl; vlen = refl; pages = λ is. refl; vectors = λ never. absurd (false≢true never) }
   ]
 
   pub outcome-keeps : Keeps (reads_memory i.op) (writes_memory i.op) c v p (outcome i c base stride v p)
