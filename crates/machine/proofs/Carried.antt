@@ -143,9 +143,9 @@ is_memory op = false
 
 moves-memory : (op : VOp) → (reads_memory op ≡ true) ⊎ (writes_memory op ≡ true) → is_memory op ≡ true
 moves-memory (Memory op) which = refl
-moves-memory (Opi op) which = ⊎_elim (λ (no : false ≡ true). no) (λ (no : false ≡ true). no) which
-moves-memory (Opm op) which = ⊎_elim (λ (no : false ≡ true). no) (λ (no : false ≡ true). no) which
-moves-memory (Config op) which = ⊎_elim (λ (no : false ≡ true). no) (λ (no : false ≡ true). no) which
+moves-memory (Opi op) which = ⊎_elim (λ (never : false ≡ true). never) (λ (never : false ≡ true). never) which
+moves-memory (Opm op) which = ⊎_elim (λ (never : false ≡ true). never) (λ (never : false ≡ true). never) which
+moves-memory (Config op) which = ⊎_elim (λ (never : false ≡ true). never) (λ (never : false ≡ true). never) which
 
 no-program : (op : VOp) (form : Form) → is_memory op ≡ true → is_engine_op op form ≡ false
 no-program (Memory op) form memory = refl
