@@ -2,4 +2,5 @@
 pub mod Widths
 pub mod Fits
 pub mod Written
+pub mod Keeping
 pub mod Planned

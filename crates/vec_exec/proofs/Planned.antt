@@ -558,11 +558,11 @@ module _ (r : Recipe) (o : Operation) (i : VInstr) (c : Cfg) (x : ℕ) (f : Fits
   -- ---- together
 
   -- what a list leaves that leaves the registers of the meaning
-  realised : (ops : List MicroOp) → operation_for i.op ≡ Some o
+  realised : (ops : List MicroOp) → all_keep_control ops ≡ true → operation_for i.op ≡ Some o
       → ((s : Slices) → c.vlen ≡ 32 * s.columns → registers_of (replay ops s) ≡ registers_after c (on_elements i c x o) (registers_of s)) → RealisesInstruction i c x ops
   unfolding RealisesInstruction
-  realised ops is all s cleared long =
-      rw is (all s long, clips-none ops s ∙ sym (unclipped r o i c x f (registers_of s)))
+  realised ops keep is all s cleared long =
+      rw is (all s long, clips-none ops s keep ∙ sym (unclipped r o i c x f (registers_of s)))
 
   pub elements-program : makes_bits r.masked ≡ false → makes_halves r.masked ≡ false → program_by r i c x ≡ element_program r i c x
   unfolding program_by
@@ -573,7 +573,7 @@ module _ (r : Recipe) (o : Operation) (i : VInstr) (c : Cfg) (x : ℕ) (f : Fits
   elements-fine is numbers unhalved made small =
       let m = elements-measured numbers unhalved made small in
       record {
-        realises = rw (elements-program numbers unhalved) (realised (element_program r i c x) is (elements-realised numbers unhalved made small));
+        realises = rw (elements-program numbers unhalved) (realised (element_program r i c x) (elements-keep r i c x) is (elements-realised numbers unhalved made small));
         cost = rw (elements-program numbers unhalved) (m.cost ∙ sym (rw (numbers, unhalved) refl));
         range = rw (elements-program numbers unhalved) m.range;
       }
@@ -587,7 +587,7 @@ module _ (r : Recipe) (o : Operation) (i : VInstr) (c : Cfg) (x : ℕ) (f : Fits
   halves-fine is numbers halves made small =
       let m = halves-measured numbers halves made small in
       record {
-        realises = rw (halves-program numbers halves) (realised (half_program r i c x) is (halves-realised numbers halves made small));
+        realises = rw (halves-program numbers halves) (realised (half_program r i c x) (halves-keep-program r i c x) is (halves-realised numbers halves made small));
         cost = rw (halves-program numbers halves) (m.cost ∙ sym (rw (numbers, halves) refl));
         range = rw (halves-program numbers halves) m.range;
       }
@@ -601,7 +601,7 @@ module _ (r : Recipe) (o : Operation) (i : VInstr) (c : Cfg) (x : ℕ) (f : Fits
   bits-fine is bits made small =
       let m = bits-measured bits made small in
       record {
-        realises = rw (bits-program bits) (realised (mask_program r i c x) is (bits-realised bits made small));
+        realises = rw (bits-program bits) (realised (mask_program r i c x) (mask-keep r i c x) is (bits-realised bits made small));
         cost = rw (bits-program bits) (m.cost ∙ sym (rw bits refl));
         range = rw (bits-program bits) m.range;
       }
