@@ -1,46 +1,59 @@
 -- What a plan writes is the program in the frame; what legality says of its rows; and what the program does and costs.
-use Rattle.std.proofs.Common.{◌≡◌, inl, inr, ℕ, zero, suc, ◌+◌, ◌*◌, ◌/◌, ◌<◌, ◌≤◌, Bool, true, false, ◌&&◌, not, cond, eqb, List, ◌++◌, Some, refl, sym, ◌∙◌, ap, arith, ⊎_elim}
-use Rattle.std.specs.Prelude.{IsTrue}
-use Rattle.std.proofs.lemmas.Bool.{and_parts, leb-true, cases_Bool}
+use Rattle.std.proofs.Common.{◌≡◌, inl, inr, ℕ, zero, suc, ◌+◌, ◌*◌, ◌/◌, ◌<◌, ◌≤◌, Bool, true, false, ◌&&◌, not, cond, eqb, nat_lt, List, ◌++◌, Option, Some, None, refl, sym, ◌∙◌, ap, subst, arith, ◌⊎◌, ⊎_elim}
+use Rattle.std.specs.Prelude.{IsTrue, is_some}
+use Rattle.std.proofs.lemmas.Bool.{and_parts, leb-true, cases_Bool, ne_eqb}
 use Rattle.bit_rows.specs.Slices.{Slices, blank}
 use Rattle.cam_chain.specs.Views.{registers_of}
+use Rattle.gen_shift.specs.Laws.{LeavesValue}
+use Rattle.gen_shift.specs.Rows.{is_among, shift_rows, shifted_row}
 use Rattle.micro_ir.specs.declared.op.MicroOp.{MicroOp}
-use Rattle.micro_ir.specs.Kinds.{Realises}
-use Rattle.micro_ir.specs.Replay.{replay, tally, AllInRange}
-use Rattle.micro_ir.specs.WorkRows.{IsOperandRow}
+use Rattle.micro_ir.specs.Kinds.{Realises, Tells}
+use Rattle.micro_ir.specs.Measures.{Measured}
+use Rattle.micro_ir.specs.Replay.{replay, tally, clips, all_keep_control, AllInRange}
+use Rattle.micro_ir.specs.WorkRows.{IsOperandRow, result_row, left_row, right_row, scalar_row}
 use Rattle.micro_ir.proofs.Lists.{clips-none}
 use Rattle.micro_ir.proofs.Valued.{realises-same, tells-same}
+use Rattle.steer_net.specs.Moves.{is_wide}
 use Rattle.rvv_decode.specs.declared.instruction.Form.{Form}
 use Rattle.rvv_decode.specs.declared.instruction.Form.TheVariants.{V, X, I}
 use Rattle.rvv_decode.specs.declared.instruction.VInstr.{VInstr}
 use Rattle.vtype_cfg.specs.declared.configuration.Cfg.{Cfg}
+use Rattle.vtype_cfg.specs.declared.vtype.Vtype.{Vtype}
 use Rattle.vtype_cfg.specs.Settings.{is_legal_vlen, is_vill_or_supported, is_valid, vlmax}
-use Rattle.vtype_cfg.specs.Classes.{class_of, compare}
+use Rattle.vtype_cfg.specs.Classes.{class_of, compare, narrowing}
+use Rattle.vtype_cfg.specs.Classes as classes
 use Rattle.vtype_cfg.specs.Legality.{is_legal}
 use Rattle.vtype_cfg.proofs.Lengths.{vlen_from, vlen_words}
-use Rattle.legal_groups.specs.Facts.{IsElementWidth, group_count, SameOrApart, SewGroups, MaskGroups}
-use Rattle.legal_groups.proofs.Groups.{legal_plain_law, legal_move_law, legal_compare_law}
+use Rattle.legal_groups.specs.Facts.{IsElementWidth, registers_for, group_count, ReadBeside, GroupWritten, MaskGroups}
+use Rattle.legal_groups.proofs.Groups.{legal_compare_law}
+use Rattle.legal_groups.proofs.Laws.{legal_group_law}
 use Rattle.rvv_meaning.specs.Elementwise.{Elementwise, registers_after, clips_below, clips as clips_elements}
-use Rattle.rvv_meaning.specs.Operations.{Operation, operation_for, on_elements, elements_at, reads_mask}
-use Rattle.frame_laws.specs.Classes.Operands.{row_of}
-use Rattle.frame_laws.specs.Classes.Plain.{AllCompute}
+use Rattle.rvv_meaning.specs.Operations.{Operation, operation_for, on_elements, elements_at, reads_mask, log2}
+use Rattle.rvv_meaning.specs.Vectors.{left_of}
+use Rattle.frame_laws.specs.Classes.Operands.{narrow, row_of, IsReadable}
+use Rattle.frame_laws.specs.Classes.Plain.{Operands, Value, IsPlain, AllCompute}
+use Rattle.frame_laws.specs.Classes.Halved.{AllLeave}
 use Rattle.frame_laws.specs.Classes.Compared.{AllTell}
 use Rattle.frame_laws.specs.Programs.{program, first_registers, one_register}
 use Rattle.frame_laws.specs.Shapes.{Shape, usual_bounds}
 use Rattle.frame_laws.specs.Masks.Programs as masks
 use Rattle.frame_meaning.specs.declared.Order.{Order}
-use Rattle.frame_meaning.specs.declared.Order.TheVariants.{Straight, Reversed, Second, Exchanged}
-use Rattle.frame_meaning.specs.Shapes.{source_in_vs1, class_in, operands_in, value_in, elements_in, shape_in, program_in}
-use Rattle.frame_meaning.specs.Laws.{Runs, IgnoresFirst}
+use Rattle.frame_meaning.specs.declared.Order.TheVariants.{Straight, Reversed, Second, Exchanged, Widening, WideSource, Half, Quarter}
+use Rattle.frame_meaning.specs.declared.Signs.{Signs}
+use Rattle.frame_meaning.specs.Shapes.{source_in_vs1, narrow_in_vs1, signs_of, scalar_of, width_in, count_in, class_in, operands_in, value_by, value_in, elements_in, shape_in, body_in, program_in}
+use Rattle.frame_meaning.specs.Laws.{Runs}
 use Rattle.frame_meaning.specs.Costs.{ElementsMeasured}
+use Rattle.frame_meaning.specs.Halves.{half_count, half_in_vs1, half_operands, half_scalar, half_value_in, half_elements, half_shape, half_body, half_program_in, IsOfHalves}
 use Rattle.frame_meaning.specs.Masks.{IsTruth, truth_in, compare_operands, compare_shape, compare_program, CompareMeasured}
-use Rattle.frame_meaning.proofs.Instructions.{elements_meaning_law, elements_cost_law}
+use Rattle.frame_meaning.proofs.Instructions.{facts-of, is-plain, elements_meaning_law, elements_cost_law}
+use Rattle.frame_meaning.proofs.Halves.{HalvesThere, halves-there, halves_meaning_law, halves_cost_law}
 use Rattle.frame_meaning.proofs.Masks.{compare_meaning_law, compare_cost_law}
 use Rattle.vec_exec.specs.declared.recipes.Listed.{Listed}
 use Rattle.vec_exec.specs.declared.recipes.Recipe.{Recipe}
-use Rattle.vec_exec.specs.Recipes.{recipe_for, makes_bits, takes_row, value_of, truth_of, list_of, counts_of, length_of, Computes}
-use Rattle.vec_exec.specs.Programs.{reads, list_for, kind_list, truth_list, element_program, mask_program, register_list, registers_list, mask_register_list, mask_registers_list, mask_fill_list, scalar_list, IsPlaced, IsMaskPlaced, IsMade, IsMaskMade, RealisesInstruction, prog, program_by, cost, cost_by}
-use Rattle.vec_exec.proofs.Fits.{Traits, Ignores, value_by, Means, Unmasked, Fits}
+use Rattle.vec_exec.specs.Recipes.{recipe_for, makes_bits, makes_halves, takes_row, takes_laid, IsFirstRow, value_of, truth_of, list_of, counts_of, length_of, Computes}
+use Rattle.vec_exec.specs.Programs.{reads, masked, list_for, width_of, count_of, kind_list, truth_list, wide_list, wide_lists, body_counts, body_length, half_counts, half_length, element_program, mask_program, half_program, register_list, registers_list, mask_register_list, mask_registers_list, half_register_list, half_registers_list, mask_fill_list, scalar_list, IsLayable, IsPlaced, IsMaskPlaced, IsHalfPlaced, IsMade, IsMaskMade, IsHalfMade, RealisesInstruction, prog, program_by, cost, cost_by}
+use Rattle.vec_exec.proofs.Keeping.{elements-keep, mask-keep, halves-keep-program}
+use Rattle.vec_exec.proofs.Fits.{Traits, takes_one_laid, Means, Unmasked, Fits}
 
 -- ---- what a valid configuration has
 
@@ -165,7 +178,11 @@ half-narrow w (inr (inr is)) (inl x) = absurd (omega (arith, is, x))
 half-narrow w (inr (inr is)) (inr (inl x)) = absurd (omega (arith, is, x))
 half-narrow w (inr (inr is)) (inr (inr x)) = absurd (omega (arith, is, x))
 
-half-wide : {w : ℕ} → (w ≡ 8) ⊎ (w ≡ 16) → IsElementWidth w
+half-built : (w : ℕ) → (w ≡ 8) ⊎ (w ≡ 16) → is_wide (2 * w) ≡ true
+half-built w (inl is) = rw is refl
+half-built w (inr is) = rw is refl
+
+pub half-wide : {w : ℕ} → (w ≡ 8) ⊎ (w ≡ 16) → IsElementWidth w
 half-wide (inl is) = inl is
 half-wide (inr is) = inr (inl is)
 
@@ -189,6 +206,7 @@ half-planned r i c legal =
       few = facts.place.few;
       placed = λ g inside. record {
         vd = let room : i.vd + registers_for c.vtype c.vtype.sew ≤ 32 = facts.place.room in omega arith;
+        wide = half-built c.vtype.sew (half-narrow c.vtype.sew facts.sew legal.source.width);
         a = λ h first. let room : i.vs2 + registers_for c.vtype (2 * c.vtype.sew) ≤ 32 = legal.source.place.room in let l = there.inside g h inside first in omega arith;
         b = λ h first. let few : half_count c.vtype ≤ 2 = two c.vtype in half-second i c i.form g h facts.sew inside (omega arith) (λ is. (legal.second is).place.room);
       };
@@ -365,6 +383,9 @@ module _ (r : Recipe) (o : Operation) (i : VInstr) (c : Cfg) (x : ℕ) (f : Fits
 
     order-is : r.order ≡ Straight
     order-is = sym (ap (λ (b : Bool). cond b r.order Straight) bits) ∙ ap (λ (t : Traits). t.order_of_bits) f.same
+
+    pub mask-width : width_of r c ≡ c.vtype.sew
+    mask-width = rw order-is refl
 
     truth : IsTruth o (truth_of r.masked)
     truth = rw bits at f.means

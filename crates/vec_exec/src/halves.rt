@@ -4,8 +4,9 @@ ghost use Rattle.frame_laws.specs.Classes.Halved.{half_list, halves_list};
 ghost use Rattle.frame_laws.specs.Costs.{counts_times};
 ghost use Rattle.frame_meaning.specs.Halves.{half_count};
 ghost use Rattle.micro_ir.specs.Measures.{Measured};
-ghost use Rattle.vec_exec.specs.Recipes.{makes_halves};
-ghost use Rattle.vec_exec.specs.Programs.{IsHalfPlaced, IsHalfMade, LeavesPart, list_for, halves_of, wide_lists, one_half_counts, one_half_length, half_register_list, half_register_length, half_registers_list};
+ghost use Rattle.micro_ir.specs.WorkRows.{IsOperandRow};
+ghost use Rattle.vec_exec.specs.Recipes.{makes_halves, list_of, counts_of, length_of};
+ghost use Rattle.vec_exec.specs.Programs.{IsHalfPlaced, IsHalfMade, LeavesHalf, LeavesPart, list_for, halves_of, wide_lists, one_half_counts, one_half_length, half_register_list, half_register_length, half_registers_list};
 
 use crate::laying::emit_half_second;
 use crate::operands::{EIGHTHS, half_place};
@@ -14,9 +15,27 @@ use crate::registers::{emit_free, emit_windows, first_of, use_of};
 use bit_laws::Width;
 use frame_laws::HALVES_ROW;
 use gen_shift::{emit_raw, raw_row};
-use micro_ir::{MicroBuf, MicroOp, emit_commit};
+use micro_ir::{MicroBuf, MicroOp, Place, emit_commit};
 use rvv_decode::VInstr;
 use vtype_cfg::Cfg;
+
+// A list that computes at twice the width of elements of `width` bits.
+fn emit_wide<D: Width>(list: Listed, width: u8, at: &Place, buf: &mut MicroBuf)
+    requires wide { 2 * width ≡ D.BITS }
+    requires halves { makes_halves list ≡ true }
+    requires a { IsOperandRow at.now.a }
+    requires b { IsOperandRow at.now.b }
+    requires room { length_of list width ≤ buf.old.spare }
+    ensures ops { buf.new.ops ≡ buf.old.ops ++ list_of list width at.now.a at.now.b at.now.addend at.now.to }
+    ensures spare { buf.new.spare + length_of list width ≡ buf.old.spare }
+    ensures leaves { LeavesHalf list width at.now.a at.now.b (list_of list width at.now.a at.now.b at.now.addend at.now.to) }
+    ensures cost { Measured (counts_of list width) (length_of list width) (list_of list width at.now.a at.now.b at.now.addend at.now.to) }
+{
+    match list {
+        Listed::Halves(kind) => emit_raw::<D>(buf, at, kind),
+        _ => unreachable!(),
+    }
+}
 
 // The operations on one half of a register: its elements at twice their width, and their low halves.
 fn emit_half<D: Width>(
@@ -42,12 +61,11 @@ fn emit_half<D: Width>(
 {
     let at = half_place(i, register, half);
     emit_half_second::<D>(i, cfg, 2 * register + half, buf);
-    match use_of(recipe, i).list {
-        Listed::Halves(kind) => emit_raw::<D>(buf, &at, kind),
-        _ => unreachable!(),
-    }
+    let list = use_of(recipe, i).list;
+    emit_wide::<D>(list, cfg.vtype.sew, &at, buf);
+    let from = raw_row::<D>();
     buf.push(MicroOp::Narrow {
-        from: raw_row::<D>(),
+        from,
         to: HALVES_ROW,
         wide: D::BITS as u8,
         part: half,
@@ -111,6 +129,13 @@ fn emit_half_register<W: Width, D: Width>(
     emit_free::<W>(cfg, first, mask.masked, to, buf);
 }
 
+// How many halves of a register hold elements.
+fn filled_halves(cfg: &Cfg) -> u8
+    ensures { result ≡ half_count cfg.now.vtype }
+{
+    if cfg.vtype.lmul8 < EIGHTHS { 1 } else { 2 }
+}
+
 // The operations on all registers of the destination, in rising order.
 pub(crate) fn emit_half_registers<W: Width, D: Width>(
     recipe: Recipe,
@@ -130,7 +155,7 @@ pub(crate) fn emit_half_registers<W: Width, D: Width>(
     ensures spare { buf.new.spare + count * half_register_length recipe i.now cfg.now ≡ buf.old.spare }
     ensures made { (g : ℕ) → g < count → IsHalfMade recipe i.now cfg.now g }
 {
-    let halves = if cfg.vtype.lmul8 < EIGHTHS { 1 } else { 2 };
+    let halves = filled_halves(cfg);
     for register in 0..count {
         emit_half_register::<W, D>(recipe, i, cfg, register, halves, buf);
     }

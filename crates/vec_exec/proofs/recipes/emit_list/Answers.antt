@@ -1,5 +1,6 @@
-use Rattle.std.proofs.Common.{◌≡◌, Bool, true, false, ◌||◌, refl}
-use Rattle.vec_exec.specs.Recipes.{list_of, counts_of, length_of, Computes}
+use Rattle.std.proofs.Common.{◌≡◌, ◌<◌, Bool, true, false, ◌||◌, refl, arith}
+use Rattle.vec_exec.specs.Recipes.{makes_halves, list_of, counts_of, length_of, Computes}
+use Rattle.vec_exec.proofs.Copied.{copied, copied-measured}
 use Rattle.vec_exec.proofs.Widths.{log2-is}
 use Rattle.vec_exec.proofs.recipes.emit_list.Goals as goal
 
@@ -52,3 +53,45 @@ unfolding list_of counts_of length_of
 returns-in-Shifts-clause-cost g c =
     let log = log2-is g.W.Width.BITS g.W.Width.LOG g.met.W.Width.power g.met.W.Width.divides g.met.W.Width.least in
     rw (c.in-Shifts.is, log) c.emit_shift.ensures.cost
+
+pub emit_logic-requires-clause-a : goal.emit_logic-requires-clause-a
+emit_logic-requires-clause-a g c = rw c.in-Bits.is at c.requires.a
+
+pub emit_sum-requires-clause-a : goal.emit_sum-requires-clause-a
+emit_sum-requires-clause-a g c = rw c.in-Sums.is at c.requires.a
+
+pub emit_truth-requires-clause-a : goal.emit_truth-requires-clause-a
+emit_truth-requires-clause-a g c = rw c.in-Truths.is at c.requires.a
+
+pub emit_choice-requires-clause-a : goal.emit_choice-requires-clause-a
+emit_choice-requires-clause-a g c = rw c.in-Choices.is at c.requires.a
+
+pub emit_shift-requires-clause-a : goal.emit_shift-requires-clause-a
+emit_shift-requires-clause-a g c = rw c.in-Shifts.is at c.requires.a
+
+pub emit_commit-requires-clause-row : goal.emit_commit-requires-clause-row
+emit_commit-requires-clause-row g c = let is = rw c.in-Copies.is at c.requires.a in rw is (omega arith)
+
+pub emit_commit-requires-clause-apart : goal.emit_commit-requires-clause-apart
+emit_commit-requires-clause-apart g c = let is = rw c.in-Copies.is at c.requires.a in rw is (omega arith)
+
+pub returns-in-Copies-clause-ops : goal.returns-in-Copies-clause-ops
+unfolding list_of
+returns-in-Copies-clause-ops g c =
+    let some : 0 < g.W.Width.BITS = let least = g.met.W.Width.least in omega arith in
+    rw c.in-Copies.is (c.emit_commit.ensures.ops g.W.Width.BITS some)
+
+pub returns-in-Copies-clause-spare : goal.returns-in-Copies-clause-spare
+unfolding length_of
+returns-in-Copies-clause-spare g c = rw c.in-Copies.is c.emit_commit.ensures.spare
+
+pub returns-in-Copies-clause-computes : goal.returns-in-Copies-clause-computes
+unfolding Computes list_of
+returns-in-Copies-clause-computes g c =
+    let is = rw c.in-Copies.is at c.requires.a in
+    let to = c.requires.to in
+    rw (c.in-Copies.is, is) (copied g.W.Width.BITS 36 c.args.at.now.to (omega arith) (omega arith) to)
+
+pub returns-in-Copies-clause-cost : goal.returns-in-Copies-clause-cost
+unfolding list_of counts_of length_of
+returns-in-Copies-clause-cost g c = rw c.in-Copies.is (copied-measured g.W.Width.BITS c.args.at.now.a c.args.at.now.to c.requires.to)
