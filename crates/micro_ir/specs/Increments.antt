@@ -7,7 +7,7 @@ use Rattle.bit_rows.specs.Slices.{Slices}
 use Rattle.micro_ir.specs.declared.op.MicroOp.{MicroOp}
 use Rattle.micro_ir.specs.declared.tables.TableStep.{TableStep}
 use Rattle.micro_ir.specs.Replay.{replay}
-use Rattle.micro_ir.specs.Steps.{Step, fires, element}
+use Rattle.micro_ir.specs.Steps.{Step, fires, element, micros}
 use Rattle.micro_ir.specs.Subs.{subs_of, between}
 use Rattle.micro_ir.specs.Tables.{values_of}
 use Rattle.micro_ir.specs.WorkRows.{carry_row, result_row}
@@ -41,6 +41,10 @@ increment w x inputs on = clear w carry_row ∷ above inputs on carry_row 0 0 �
 -- The rows and the values of a step that makes the bit that is added, and the subarrays of the lowest bits.
 abbrev pub step_inputs : TableStep → List ℕ
 step_inputs step = take step.n step.inputs
+
+-- The operations that add to row x the bit that a step makes.
+abbrev pub increment_ops : (w x : ℕ) → TableStep → List MicroOp
+increment_ops w x step = micros w (increment w x (step_inputs step) (values_of step.on))
 
 abbrev pub lowest_subs : (w : ℕ) → ℕ
 lowest_subs w = subs_of w (between 0 1)

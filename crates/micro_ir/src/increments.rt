@@ -4,7 +4,7 @@ ghost use Rattle.cam_chain.specs.KeyPairs.{are_keys, is_new_row, keys_of};
 ghost use Rattle.micro_ir.specs.Steps.{micros};
 ghost use Rattle.micro_ir.specs.Tables.{values_of};
 ghost use Rattle.micro_ir.specs.Effects.{Costs};
-ghost use Rattle.micro_ir.specs.Increments.{half_sums, increment, step_inputs, lowest_subs, Increments};
+ghost use Rattle.micro_ir.specs.Increments.{half_sums, increment_ops, step_inputs, lowest_subs, Increments};
 
 use crate::buf::MicroBuf;
 use crate::pieces::{emit_above, emit_clear};
@@ -33,14 +33,13 @@ pub fn emit_increment<W: Width>(buf: &mut MicroBuf, from: u8, step: &TableStep)
     requires lowest { step.now.subs ≡ lowest_subs W.BITS }
     requires still { step.now.times ≡ 0 }
     requires room { 6 * W.BITS + 2 + length (values_of step.now.on) ≤ buf.old.spare }
-    ensures ops { buf.new.ops ≡ buf.old.ops ++ micros W.BITS
-        (increment W.BITS from (step_inputs step.now) (values_of step.now.on)) }
+    ensures ops { buf.new.ops ≡ buf.old.ops ++ increment_ops W.BITS from step.now }
     ensures spare { buf.new.spare + (6 * W.BITS + 2 + length (values_of step.now.on))
         ≡ buf.old.spare }
     ensures effect { Increments W.BITS from (step_inputs step.now) (values_of step.now.on)
-        (micros W.BITS (increment W.BITS from (step_inputs step.now) (values_of step.now.on))) }
+        (increment_ops W.BITS from step.now) }
     ensures cost { Costs (3 * W.BITS + 1 + length (values_of step.now.on)) (2 * W.BITS + 2) (W.BITS - 1)
-        (micros W.BITS (increment W.BITS from (step_inputs step.now) (values_of step.now.on))) }
+        (increment_ops W.BITS from step.now) }
 {
     emit_clear(buf, CARRY_ROW);
     emit_table(buf, step);

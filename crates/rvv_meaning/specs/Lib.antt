@@ -2,6 +2,8 @@
 pub mod Vectors
 pub mod Elementwise
 pub mod Operations
+pub mod VectorAccesses
+pub mod LoadsAndStores
 pub mod Calls
 pub mod States
 pub mod Allowed

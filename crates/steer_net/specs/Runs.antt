@@ -19,6 +19,10 @@ source_bit (Slid base first up by limit) width s p j = slid_bit s base width up 
 source_bit (Picked base index limit) width s p j = limited s base width limit index j
 source_bit (Indexed first) width s p j = eqb (bit_at (first + p) j) 1
 
+-- the bit that a column of a subarray of the row gets, which is 0 past the columns
+abbrev pub column_bit : Source → (width : ℕ) → Slices → (sub c : ℕ) → Bool
+column_bit source width s sub c = ltb c s.columns && source_bit source width s (position width sub c) (sub % width)
+
 -- The rows and widths that are read are a chain's.
 abbrev pub IsSource : Source → (width columns : ℕ) → Type 0
 IsSource (Widened from narrow part) width columns = (from < 64) × (is_width narrow ≡ true) × (narrow < width) × (part < width / narrow)
@@ -50,4 +54,4 @@ subarray_bit subarrays sub c = word_bit (slice_index_or subarrays sub []) c
 -- The words of a subarray hold what a row gets.
 abbrev pub HoldsSource : List (List ℕ) → Source → (width : ℕ) → Slices → (sub : ℕ) → Type 0
 HoldsSource subarrays source width s sub =
-    (c : ℕ) → subarray_bit subarrays sub c ≡ (ltb c s.columns && source_bit source width s (position width sub c) (sub % width))
+    (c : ℕ) → subarray_bit subarrays sub c ≡ column_bit source width s sub c

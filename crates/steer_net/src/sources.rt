@@ -5,7 +5,7 @@ ghost use Rattle.std.specs.Int.{bit_at};
 ghost use Rattle.bit_rows.specs.Words.{word_bit};
 ghost use Rattle.steer_net.specs.Network.{is_width, position};
 ghost use Rattle.steer_net.specs.Moves.{GroupReaches, in_part};
-ghost use Rattle.steer_net.specs.Runs.{source_bit, IsSource, run_number, narrowed_number};
+ghost use Rattle.steer_net.specs.Runs.{column_bit, IsSource, run_number, narrowed_number};
 ghost use Rattle.steer_net.specs.declared.sources.Source.TheVariants.{Widened, Narrowed, Slid, Picked, Indexed};
 
 use crate::packing::{put_column, row_words};
@@ -54,7 +54,7 @@ pub(crate) fn source_words<P: Planes>(p: &P, width: u8, source: Source, sub: u8)
     requires sub { sub < 32 }
     requires reads { IsSource source width (P.slices p.now).columns }
     ensures { (c : ℕ) → word_bit result c
-        ≡ (ltb c (P.slices p.now).columns && source_bit source width (P.slices p.now) (position width sub c) (sub % width)) }
+        ≡ column_bit source width (P.slices p.now) sub c }
 {
     match source {
         Source::Widened { from, narrow, part } => widened_words(p, from, narrow, width, part, sub),
@@ -91,7 +91,7 @@ fn widened_words<P: Planes>(
     requires sub { sub < 32 }
     requires reads { IsSource (Widened from narrow part) wide (P.slices p.now).columns }
     ensures { (c : ℕ) → word_bit result c
-        ≡ (ltb c (P.slices p.now).columns && source_bit (Widened from narrow part) wide (P.slices p.now) (position wide sub c) (sub % wide)) }
+        ≡ column_bit (Widened from narrow part) wide (P.slices p.now) sub c }
 {
     let mut words = [0; MAX_WORDS];
     let place = sub % wide;
@@ -122,7 +122,7 @@ fn narrowed_words<P: Planes>(
     requires sub { sub < 32 }
     requires reads { IsSource (Narrowed from to part) width (P.slices p.now).columns }
     ensures { (c : ℕ) → word_bit result c
-        ≡ (ltb c (P.slices p.now).columns && source_bit (Narrowed from to part) width (P.slices p.now) (position width sub c) (sub % width)) }
+        ≡ column_bit (Narrowed from to part) width (P.slices p.now) sub c }
 {
     let mut words = row_words(p, sub, to);
     let run = narrowed_run(p.columns(), from, width, part, sub);
@@ -186,7 +186,7 @@ fn slid_words<P: Planes>(
     requires sub { sub < 32 }
     requires reach { GroupReaches (P.slices p.now).columns base width limit }
     ensures { (c : ℕ) → word_bit result c
-        ≡ (ltb c (P.slices p.now).columns && source_bit (Slid base first up by limit) width (P.slices p.now) (position width sub c) (sub % width)) }
+        ≡ column_bit (Slid base first up by limit) width (P.slices p.now) sub c }
 {
     let lanes = u32::from(SUBARRAYS / width);
     // The sum of two u32 may not fit one.
@@ -245,7 +245,7 @@ fn picked_words<P: Planes>(
     requires sub { sub < 32 }
     requires reach { GroupReaches (P.slices p.now).columns base width limit }
     ensures { (c : ℕ) → word_bit result c
-        ≡ (ltb c (P.slices p.now).columns && source_bit (Picked base index limit) width (P.slices p.now) (position width sub c) (sub % width)) }
+        ≡ column_bit (Picked base index limit) width (P.slices p.now) sub c }
 {
     let mut words = [0; MAX_WORDS];
     if index < limit {

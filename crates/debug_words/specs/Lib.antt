@@ -1,0 +1,2 @@
+-- What the lines of a session are.
+pub mod Grammar
