@@ -1,9 +1,9 @@
 -- The lists of each recipe compute the value, or tell the truth, of its operation.
-use Rattle.std.proofs.Common.{◌≡◌, ℕ, ◌+◌, ◌^◌, Bool, true, false, cond, leb, ltb, Option, Some, None, refl, ap, arith}
-use Rattle.std.specs.Prelude.{is_some, ℤ, pos, negsuc}
-use Rattle.std.specs.Int.{int_shr}
+use Rattle.std.proofs.Common.{◌≡◌, ℕ, ◌+◌, ◌-◌, ◌*◌, ◌^◌, eqb, Bool, true, false, cond, leb, ltb, Option, Some, None, refl, ap, arith, mul_comm}
+use Rattle.std.specs.Prelude.{is_some, ℤ, pos, negsuc, ◌*ℤ◌, int_div, int_rem}
+use Rattle.std.specs.Int.{int_shr, int_div_euclid}
 use Rattle.rvv_decode.specs.declared.instruction.OpiOp.TheVariants.{Vadd, Vsub, Vrsub, Vadc, Vsbc, Vmadc, Vmsbc, Vand, Vor, Vxor, Vsll, Vsrl, Vsra, Vmseq, Vmsne, Vmsltu, Vmslt, Vmsleu, Vmsle, Vmsgtu, Vmsgt, Vminu, Vmin, Vmaxu, Vmax, Vmerge, VmvV, Vnsrl, Vnsra}
-use Rattle.rvv_decode.specs.declared.instruction.OpmOp.TheVariants.{VzextVf2, VzextVf4, VsextVf2, VsextVf4, Vwaddu, Vwadd, Vwsubu, Vwsub, VwadduW, VwaddW, VwsubuW, VwsubW}
+use Rattle.rvv_decode.specs.declared.instruction.OpmOp.TheVariants.{Vdivu, Vdiv, Vremu, Vrem, Vmulhu, Vmul, Vmulhsu, Vmulh, Vmadd, Vnmsub, Vmacc, Vnmsac, VzextVf2, VzextVf4, VsextVf2, VsextVf4, Vwaddu, Vwadd, Vwsubu, Vwsub, VwadduW, VwaddW, VwsubuW, VwsubW}
 use Rattle.rvv_decode.specs.declared.instruction.ConfigOp.{ConfigOp}
 use Rattle.rvv_decode.specs.declared.instruction.VOp.{VOp}
 use Rattle.rvv_decode.specs.declared.instruction.VOp.TheVariants.{Opi, Opm, Config, Memory}
@@ -14,7 +14,7 @@ use Rattle.gen_shift.specs.Kinds as shifts
 use Rattle.rvv_meaning.specs.Operations.{low_int, log2, Operation, operation_for}
 use Rattle.rvv_meaning.specs.Vectors.{is_built}
 use Rattle.frame_meaning.specs.declared.Order.{Order}
-use Rattle.frame_meaning.specs.declared.Order.TheVariants.{Straight, Half, Quarter}
+use Rattle.frame_meaning.specs.declared.Order.TheVariants.{Straight, Widening, WideSource, Half, Quarter}
 use Rattle.frame_meaning.specs.declared.Signs.{Signs}
 use Rattle.frame_meaning.specs.Halves.{IsOfHalves}
 use Rattle.frame_meaning.specs.Laws.{Ignores}
@@ -22,7 +22,7 @@ use Rattle.frame_meaning.specs.Masks.{IsTruth}
 use Rattle.frame_meaning.specs.Shapes.{class_in, signs_of, value_by}
 use Rattle.vec_exec.specs.declared.recipes.Listed.{Listed}
 use Rattle.vec_exec.specs.declared.recipes.Recipe.{Recipe}
-use Rattle.vec_exec.specs.Recipes.{recipe_for, makes_bits, makes_halves, takes_row, takes_laid, value_of, truth_of}
+use Rattle.vec_exec.specs.Recipes.{recipe_for, makes_bits, makes_halves, takes_row, takes_laid, uses_wide_rows, value_of, truth_of}
 
 -- ---- what a recipe and its operation have in common
 
@@ -36,6 +36,12 @@ takes_one_laid Half = true
 takes_one_laid Quarter = true
 takes_one_laid _ = false
 
+-- whether operands are laid out in the rows of wide operands
+abbrev pub has_wide_rows : Order → Bool
+has_wide_rows Widening = true
+has_wide_rows WideSource = true
+has_wide_rows _ = false
+
 -- what says how a program is made
 pub record Traits : Type 0 where
   pub takes_mask : Bool
@@ -44,6 +50,9 @@ pub record Traits : Type 0 where
   pub masked : Bool
   pub plain_laid : Bool
   pub masked_laid : Bool
+  -- whether the lists use the rows of wide operands, and whether they do so though these hold operands
+  pub uses_wide : Bool
+  pub clashes : Bool
   pub bits : Bool
   pub halves : Bool
   pub order_of_bits : Order
@@ -58,6 +67,8 @@ traits_of op r o = record {
   masked = takes_row r.masked;
   plain_laid = takes_laid r.plain;
   masked_laid = takes_laid r.masked;
+  uses_wide = uses_wide_rows r.plain;
+  clashes = cond (has_wide_rows r.order) (uses_wide_rows r.masked) false;
   bits = makes_bits r.plain;
   halves = makes_halves r.plain;
   order_of_bits = cond (makes_bits r.masked) r.order Straight;
@@ -73,6 +84,8 @@ traits_wanted r o = record {
   masked = r.takes_mask;
   plain_laid = takes_one_laid r.order;
   masked_laid = takes_one_laid r.order;
+  uses_wide = uses_wide_rows r.masked;
+  clashes = false;
   bits = makes_bits r.masked;
   halves = makes_halves r.masked;
   order_of_bits = Straight;
@@ -115,6 +128,13 @@ same-low : (w : ℕ) (z : ℤ) → shifts.low_int w z ≡ low_int w z
 same-low w (pos n) = refl
 same-low w (negsuc n) = refl
 
+-- a product added to a third operand, and taken from it, in the order of the list and of the meaning
+added : (a b d : ℕ) → a * b + d ≡ b * a + d
+added a b d = ap (λ (n : ℕ). n + d) (mul_comm a b)
+
+taken : (w a b d : ℕ) → d + (2 ^ w - low w (a * b)) ≡ d + (2 ^ w - low w (b * a))
+taken w a b d = ap (λ (n : ℕ). d + (2 ^ w - low w n)) (mul_comm a b)
+
 fits : (op : VOp) → FitsIf op (recipe_for op) (operation_for op)
 unfolding recipe_for operation_for opi_class opm_class
 fits (Opi Vadd) = record { same = refl; ignores = tt; means = λ w mode a b d m. refl; unmasked = λ w a b d m. refl; halves = tt }
@@ -146,6 +166,18 @@ fits (Opi Vmerge) = record { same = refl; ignores = tt; means = λ w mode a b d 
 fits (Opi VmvV) = record { same = refl; ignores = λ w mode x y b d m. refl; means = λ w mode a b d m. refl; unmasked = λ w a b d m. refl; halves = tt }
 fits (Opi Vnsrl) = record { same = refl; ignores = tt; means = λ w mode a b d m. refl; unmasked = λ w a b d m. refl; halves = (record { ignores = λ w mode a b d m. refl; a = refl; b = refl; immediate = refl }, refl) }
 fits (Opi Vnsra) = record { same = refl; ignores = tt; means = λ w mode a b d m. same-low (2 * w) (int_shr (signed (2 * w) a) (low (log2 (2 * w)) b)); unmasked = λ w a b d m. refl; halves = (record { ignores = λ w mode a b d m. refl; a = refl; b = refl; immediate = refl }, refl) }
+fits (Opm Vmul) = record { same = refl; ignores = tt; means = λ w mode a b d m. refl; unmasked = λ w a b d m. refl; halves = tt }
+fits (Opm Vmulh) = record { same = refl; ignores = tt; means = λ w mode a b d m. same-low w (int_div_euclid (signed w a *ℤ signed w b) (pos (2 ^ w))); unmasked = λ w a b d m. refl; halves = tt }
+fits (Opm Vmulhu) = record { same = refl; ignores = tt; means = λ w mode a b d m. refl; unmasked = λ w a b d m. refl; halves = tt }
+fits (Opm Vmulhsu) = record { same = refl; ignores = tt; means = λ w mode a b d m. same-low w (int_div_euclid (signed w a *ℤ pos b) (pos (2 ^ w))); unmasked = λ w a b d m. refl; halves = tt }
+fits (Opm Vdivu) = record { same = refl; ignores = tt; means = λ w mode a b d m. refl; unmasked = λ w a b d m. refl; halves = tt }
+fits (Opm Vdiv) = record { same = refl; ignores = tt; means = λ w mode a b d m. ap (cond (eqb b 0) (2 ^ w - 1)) (same-low w (int_div (signed w a) (signed w b))); unmasked = λ w a b d m. refl; halves = tt }
+fits (Opm Vremu) = record { same = refl; ignores = tt; means = λ w mode a b d m. refl; unmasked = λ w a b d m. refl; halves = tt }
+fits (Opm Vrem) = record { same = refl; ignores = tt; means = λ w mode a b d m. ap (cond (eqb b 0) a) (same-low w (int_rem (signed w a) (signed w b))); unmasked = λ w a b d m. refl; halves = tt }
+fits (Opm Vmacc) = record { same = refl; ignores = tt; means = λ w mode a b d m. added a b d; unmasked = λ w a b d m. refl; halves = tt }
+fits (Opm Vnmsac) = record { same = refl; ignores = tt; means = λ w mode a b d m. taken w a b d; unmasked = λ w a b d m. refl; halves = tt }
+fits (Opm Vmadd) = record { same = refl; ignores = tt; means = λ w mode a b d m. added a b d; unmasked = λ w a b d m. refl; halves = tt }
+fits (Opm Vnmsub) = record { same = refl; ignores = tt; means = λ w mode a b d m. taken w a b d; unmasked = λ w a b d m. refl; halves = tt }
 fits (Opm VzextVf2) = record { same = refl; ignores = λ w mode a x y d m. refl; means = λ w mode a b d m. refl; unmasked = λ w a b d m. refl; halves = tt }
 fits (Opm VzextVf4) = record { same = refl; ignores = λ w mode a x y d m. refl; means = λ w mode a b d m. refl; unmasked = λ w a b d m. refl; halves = tt }
 fits (Opm VsextVf2) = record { same = refl; ignores = λ w mode a x y d m. refl; means = λ w mode a b d m. refl; unmasked = λ w a b d m. refl; halves = tt }

@@ -10,7 +10,7 @@ use Rattle.rvv_decode.specs.declared.instruction.VInstr.{VInstr}
 use Rattle.vtype_cfg.specs.declared.configuration.Cfg.{Cfg}
 use Rattle.rvv_meaning.specs.Elementwise.{is_ones}
 use Rattle.vec_exec.specs.declared.recipes.Listed.{Listed}
-use Rattle.vec_exec.specs.declared.recipes.Listed.TheVariants.{Bits, Sums, Truths, Choices, Shifts, Copies, Halves}
+use Rattle.vec_exec.specs.declared.recipes.Listed.TheVariants.{Bits, Sums, Truths, Choices, Shifts, Products, Divisions, Copies, Halves}
 use Rattle.vec_exec.specs.declared.recipes.Recipe.{Recipe}
 use Rattle.frame_laws.specs.Classes.Halved.{Pair, Lists, halves_row, half_list, halves_list}
 use Rattle.frame_laws.specs.Classes.Operands.{Operand, group, scalar, narrow, laid_out}
@@ -33,6 +33,8 @@ list-keep (Sums kind) w a b d to = micros-keep w _
 list-keep (Truths kind) w a b d to = micros-keep w _
 list-keep (Choices kind) w a b d to = micros-keep w _
 list-keep (Shifts kind) w a b d to = micros-keep w _
+list-keep (Products kind) w a b d to = micros-keep w _
+list-keep (Divisions kind) w a b d to = micros-keep w _
 list-keep Copies w a b d to = micros-keep w _
 list-keep (Halves kind) w a b d to = micros-keep (2 * w) _
 

@@ -1,9 +1,11 @@
 -- What a plan writes is the program in the frame; what legality says of its rows; and what the program does and costs.
 use Rattle.std.proofs.Common.{◌≡◌, inl, inr, ℕ, zero, suc, ◌+◌, ◌*◌, ◌/◌, ◌<◌, ◌≤◌, Bool, true, false, ◌&&◌, not, cond, eqb, nat_lt, List, ◌++◌, Option, Some, None, refl, sym, ◌∙◌, ap, subst, arith, ◌⊎◌, ⊎_elim}
 use Rattle.std.specs.Prelude.{IsTrue, is_some}
-use Rattle.std.proofs.lemmas.Bool.{and_parts, leb-true, cases_Bool, ne_eqb}
+use Rattle.std.proofs.lemmas.Bool.{and_parts, leb-true, cases_Bool, ne_eqb, false≢true}
 use Rattle.bit_rows.specs.Slices.{Slices, blank}
 use Rattle.cam_chain.specs.Views.{registers_of}
+use Rattle.gen_div.specs.Rows.{IsSignedRow}
+use Rattle.gen_div.specs.declared.kinds.Division.TheVariants.{Divu, Remu, Div, Rem}
 use Rattle.gen_shift.specs.Laws.{LeavesValue}
 use Rattle.gen_shift.specs.Rows.{is_among, shift_rows, shifted_row}
 use Rattle.micro_ir.specs.declared.op.MicroOp.{MicroOp}
@@ -49,11 +51,12 @@ use Rattle.frame_meaning.proofs.Instructions.{facts-of, is-plain, elements_meani
 use Rattle.frame_meaning.proofs.Halves.{HalvesThere, halves-there, halves_meaning_law, halves_cost_law}
 use Rattle.frame_meaning.proofs.Masks.{compare_meaning_law, compare_cost_law}
 use Rattle.vec_exec.specs.declared.recipes.Listed.{Listed}
+use Rattle.vec_exec.specs.declared.recipes.Listed.TheVariants.{Bits, Sums, Truths, Choices, Shifts, Products, Divisions, Copies, Halves}
 use Rattle.vec_exec.specs.declared.recipes.Recipe.{Recipe}
-use Rattle.vec_exec.specs.Recipes.{recipe_for, makes_bits, makes_halves, takes_row, takes_laid, IsFirstRow, value_of, truth_of, list_of, counts_of, length_of, Computes}
+use Rattle.vec_exec.specs.Recipes.{recipe_for, makes_bits, makes_halves, takes_row, takes_laid, uses_wide_rows, FitsRows, value_of, truth_of, list_of, counts_of, length_of, Computes}
 use Rattle.vec_exec.specs.Programs.{reads, masked, list_for, width_of, count_of, kind_list, truth_list, wide_list, wide_lists, body_counts, body_length, half_counts, half_length, element_program, mask_program, half_program, register_list, registers_list, mask_register_list, mask_registers_list, half_register_list, half_registers_list, mask_fill_list, scalar_list, IsLayable, IsPlaced, IsMaskPlaced, IsHalfPlaced, IsMade, IsMaskMade, IsHalfMade, RealisesInstruction, prog, program_by, cost, cost_by}
 use Rattle.vec_exec.proofs.Keeping.{elements-keep, mask-keep, halves-keep-program}
-use Rattle.vec_exec.proofs.Fits.{Traits, takes_one_laid, Means, Unmasked, Fits}
+use Rattle.vec_exec.proofs.Fits.{Traits, takes_one_laid, has_wide_rows, Means, Unmasked, Fits}
 
 -- ---- what a valid configuration has
 
@@ -78,20 +81,61 @@ no-bit w (inr (inl is)) = rw is refl
 no-bit w (inr (inr is)) = rw is refl
 
 -- the row of what stands in the place of vs1: where it is as wide, and where it is laid out
-second-row : (sh : Shape) (form : Form) (vs1 g : ℕ) → g < sh.registers → IsReadable sh (source_in_vs1 form vs1) → IsOperandRow (row_of (source_in_vs1 form vs1) g)
+second-row : (sh : Shape) (form : Form) (vs1 g : ℕ) → g < sh.registers → IsReadable sh (source_in_vs1 form vs1) → IsSignedRow (row_of (source_in_vs1 form vs1) g)
 second-row sh V vs1 g inside readable = inl (readable g inside).0
-second-row sh X vs1 g inside readable = inr (inr (inl refl))
-second-row sh I vs1 g inside readable = inr (inr (inl refl))
+second-row sh X vs1 g inside readable = inr refl
+second-row sh I vs1 g inside readable = inr refl
 
 wide-row : (form : Form) (signed : Bool) (sew vs1 g : ℕ) → IsOperandRow (row_of (narrow_in_vs1 form signed sew vs1) g)
 wide-row V signed sew vs1 g = inr (inr (inr (inr refl)))
 wide-row X signed sew vs1 g = inr (inr (inl refl))
 wide-row I signed sew vs1 g = inr (inr (inl refl))
 
-compared-row : (form : Form) (vs1 n g : ℕ) → g < n → (form ≡ V → vs1 + n ≤ 32) → IsOperandRow (row_of (source_in_vs1 form vs1) g)
+compared-row : (form : Form) (vs1 n g : ℕ) → g < n → (form ≡ V → vs1 + n ≤ 32) → IsSignedRow (row_of (source_in_vs1 form vs1) g)
 compared-row V vs1 n g inside room = let r : vs1 + n ≤ 32 = room refl in inl (omega arith)
-compared-row X vs1 n g inside room = inr (inr (inl refl))
-compared-row I vs1 n g inside room = inr (inr (inl refl))
+compared-row X vs1 n g inside room = inr refl
+compared-row I vs1 n g inside room = inr refl
+
+operand-row : (row : ℕ) → IsSignedRow row → IsOperandRow row
+operand-row row (inl register) = inl register
+operand-row row (inr scalar) = inr (inr (inl scalar))
+
+-- the rows that fit a list: registers and the scalar's, those of wide operands too, and that of results
+plain-rows : (list : Listed) (a b : ℕ) → takes_laid list ≡ false → IsSignedRow a → IsSignedRow b → FitsRows list a b
+plain-rows (Divisions Divu) a b laid first second = (operand-row a first, operand-row b second)
+plain-rows (Divisions Remu) a b laid first second = (operand-row a first, operand-row b second)
+plain-rows (Divisions Div) a b laid first second = (first, second)
+plain-rows (Divisions Rem) a b laid first second = (first, second)
+plain-rows (Bits kind) a b laid first second = (operand-row a first, operand-row b second)
+plain-rows (Sums kind) a b laid first second = (operand-row a first, operand-row b second)
+plain-rows (Truths kind) a b laid first second = (operand-row a first, operand-row b second)
+plain-rows (Choices kind) a b laid first second = (operand-row a first, operand-row b second)
+plain-rows (Shifts kind) a b laid first second = (operand-row a first, operand-row b second)
+plain-rows (Products kind) a b laid first second = (operand-row a first, operand-row b second)
+plain-rows (Halves kind) a b laid first second = (operand-row a first, operand-row b second)
+plain-rows Copies a b laid first second = absurd (false≢true (sym laid))
+
+wide-rows : (list : Listed) (a b : ℕ) → takes_laid list ≡ false → uses_wide_rows list ≡ false → IsOperandRow a → IsOperandRow b → FitsRows list a b
+wide-rows (Divisions kind) a b laid free first second = absurd (false≢true (sym free))
+wide-rows (Bits kind) a b laid free first second = (first, second)
+wide-rows (Sums kind) a b laid free first second = (first, second)
+wide-rows (Truths kind) a b laid free first second = (first, second)
+wide-rows (Choices kind) a b laid free first second = (first, second)
+wide-rows (Shifts kind) a b laid free first second = (first, second)
+wide-rows (Products kind) a b laid free first second = (first, second)
+wide-rows (Halves kind) a b laid free first second = (first, second)
+wide-rows Copies a b laid free first second = absurd (false≢true (sym laid))
+
+laid-rows : (list : Listed) (b : ℕ) → takes_laid list ≡ true → IsOperandRow b → FitsRows list result_row b
+laid-rows Copies b laid second = (refl, second)
+laid-rows (Divisions kind) b laid second = absurd (false≢true laid)
+laid-rows (Bits kind) b laid second = absurd (false≢true laid)
+laid-rows (Sums kind) b laid second = absurd (false≢true laid)
+laid-rows (Truths kind) b laid second = absurd (false≢true laid)
+laid-rows (Choices kind) b laid second = absurd (false≢true laid)
+laid-rows (Shifts kind) b laid second = absurd (false≢true laid)
+laid-rows (Products kind) b laid second = absurd (false≢true laid)
+laid-rows (Halves kind) b laid second = absurd (false≢true laid)
 
 -- an operand that can be read can be laid out
 layable : (sh : Shape) (signed : Bool) (by n first row g : ℕ) → IsElementWidth n → g < sh.registers → IsReadable sh (narrow signed by n first row) → IsLayable (narrow signed by n first row) sh.width g
@@ -107,17 +151,9 @@ wide-layable sh V signed sew vs1 g wide inside readable = layable sh signed 2 se
 wide-layable sh X signed sew vs1 g wide inside readable = tt
 wide-layable sh I signed sew vs1 g wide inside readable = tt
 
--- the first row of a list
-first-row : (list : Listed) (r : ℕ) → takes_laid list ≡ false → IsOperandRow r → IsFirstRow list r
-first-row list r none is = rw none is
-
-laid-row : (list : Listed) → takes_laid list ≡ true → IsFirstRow list result_row
-laid-row list laid = rw laid refl
-
 -- the rows of a list's operands for register g, and that they can be laid out
 record Rows (list : Listed) (with : Operands) (w g : ℕ) : Type 0 where
-  a : IsFirstRow list (row_of with.a g)
-  b : IsOperandRow (row_of with.b g)
+  fit : FitsRows list (row_of with.a g) (row_of with.b g)
   addend : with.addend + g < 32
   first : IsLayable with.a w g
   second : IsLayable with.b w g
@@ -129,11 +165,11 @@ pub record Plans (r : Recipe) (i : VInstr) (c : Cfg) : Type 0 where
   pub few : count_of r c ≤ 8
   pub placed : (g : ℕ) → g < count_of r c → IsPlaced r i c g
 
-pub record MaskPlans (i : VInstr) (c : Cfg) : Type 0 where
+pub record MaskPlans (r : Recipe) (i : VInstr) (c : Cfg) : Type 0 where
   pub sew : IsElementWidth c.vtype.sew
   pub few : group_count c.vtype ≤ 8
   pub vd : i.vd < 32
-  pub placed : (g : ℕ) → g < group_count c.vtype → IsMaskPlaced i g
+  pub placed : (g : ℕ) → g < group_count c.vtype → IsMaskPlaced r i g
 
 pub record HalfPlans (r : Recipe) (i : VInstr) (c : Cfg) : Type 0 where
   pub narrow : (c.vtype.sew ≡ 8) ⊎ (c.vtype.sew ≡ 16)
@@ -270,6 +306,9 @@ module _ (r : Recipe) (o : Operation) (i : VInstr) (c : Cfg) (x : ℕ) (f : Fits
   laid-for : takes_laid (list_for r i) ≡ takes_one_laid r.order
   laid-for = chosen takes_laid (ap (λ (t : Traits). t.plain_laid) f.same ∙ sym (ap (λ (t : Traits). t.masked_laid) f.same)) ∙ ap (λ (t : Traits). t.masked_laid) f.same
 
+  free-for : cond (has_wide_rows r.order) (uses_wide_rows (list_for r i)) false ≡ false
+  free-for = ap (λ (b : Bool). cond (has_wide_rows r.order) b false) (chosen uses_wide_rows (ap (λ (t : Traits). t.uses_wide) f.same)) ∙ ap (λ (t : Traits). t.clashes) f.same
+
   -- it takes the mask where the instruction reads it
   takes-for : takes_row (list_for r i) ≡ reads_mask i o
   takes-for = either r.takes_mask (not i.vm) refl ∙ rw takes refl
@@ -387,6 +426,9 @@ module _ (r : Recipe) (o : Operation) (i : VInstr) (c : Cfg) (x : ℕ) (f : Fits
     pub mask-width : width_of r c ≡ c.vtype.sew
     mask-width = rw order-is refl
 
+    mask-laid : takes_laid (list_for r i) ≡ false
+    mask-laid = laid-for ∙ rw order-is refl
+
     truth : IsTruth o (truth_of r.masked)
     truth = rw bits at f.means
 
@@ -430,36 +472,53 @@ module _ (r : Recipe) (o : Operation) (i : VInstr) (c : Cfg) (x : ℕ) (f : Fits
 
 -- the rows of the operands for register g, and that they can be laid out
 module _ (r : Recipe) (i : VInstr) (c : Cfg) (list : Listed) (sh : Shape) (value : Value) (columns : ℕ) where
-  rows-in : (order : Order) (signs : Signs) → takes_laid list ≡ takes_one_laid order → IsElementWidth c.vtype.sew → (order ≡ Half → IsElementWidth (c.vtype.sew / 2)) → (order ≡ Quarter → IsElementWidth (c.vtype.sew / 4))
+  rows-in : (order : Order) (signs : Signs) → takes_laid list ≡ takes_one_laid order → cond (has_wide_rows order) (uses_wide_rows list) false ≡ false → IsElementWidth c.vtype.sew
+      → (order ≡ Half → IsElementWidth (c.vtype.sew / 2)) → (order ≡ Quarter → IsElementWidth (c.vtype.sew / 4))
       → IsPlain sh (operands_in order signs i c.vtype.sew) value columns → (g : ℕ) → g < sh.registers → Rows list (operands_in order signs i c.vtype.sew) sh.width g
-  rows-in Straight signs laid sew half quarter p g inside = record { a = first-row list _ laid (inl (p.a g inside).0); b = second-row sh i.form i.vs1 g inside p.b; addend = (p.addend g inside).0; first = tt; second = second-layable sh i.form i.vs1 g }
-  rows-in Reversed signs laid sew half quarter p g inside = record { a = first-row list _ laid (second-row sh i.form i.vs1 g inside p.a); b = inl (p.b g inside).0; addend = (p.addend g inside).0; first = second-layable sh i.form i.vs1 g; second = tt }
-  rows-in Second signs laid sew half quarter p g inside = record { a = first-row list _ laid (inl (p.a g inside).0); b = second-row sh i.form i.vs1 g inside p.b; addend = (p.addend g inside).0; first = tt; second = second-layable sh i.form i.vs1 g }
-  rows-in Exchanged signs laid sew half quarter p g inside = record { a = first-row list _ laid (inl (p.a g inside).0); b = second-row sh i.form i.vs1 g inside p.b; addend = (p.addend g inside).0; first = tt; second = second-layable sh i.form i.vs1 g }
-  rows-in Widening signs laid sew half quarter p g inside = record {
-    a = first-row list _ laid (inr (inr (inr (inl refl))));
-    b = wide-row i.form signs.b c.vtype.sew i.vs1 g;
+  rows-in Straight signs laid free sew half quarter p g inside = record {
+    fit = plain-rows list _ _ laid (inl (p.a g inside).0) (second-row sh i.form i.vs1 g inside p.b);
+    addend = (p.addend g inside).0;
+    first = tt;
+    second = second-layable sh i.form i.vs1 g;
+  }
+  rows-in Reversed signs laid free sew half quarter p g inside = record {
+    fit = plain-rows list _ _ laid (second-row sh i.form i.vs1 g inside p.a) (inl (p.b g inside).0);
+    addend = (p.addend g inside).0;
+    first = second-layable sh i.form i.vs1 g;
+    second = tt;
+  }
+  rows-in Second signs laid free sew half quarter p g inside = record {
+    fit = plain-rows list _ _ laid (inl (p.a g inside).0) (second-row sh i.form i.vs1 g inside p.b);
+    addend = (p.addend g inside).0;
+    first = tt;
+    second = second-layable sh i.form i.vs1 g;
+  }
+  rows-in Exchanged signs laid free sew half quarter p g inside = record {
+    fit = plain-rows list _ _ laid (inl (p.a g inside).0) (second-row sh i.form i.vs1 g inside p.b);
+    addend = (p.addend g inside).0;
+    first = tt;
+    second = second-layable sh i.form i.vs1 g;
+  }
+  rows-in Widening signs laid free sew half quarter p g inside = record {
+    fit = wide-rows list _ _ laid free (inr (inr (inr (inl refl)))) (wide-row i.form signs.b c.vtype.sew i.vs1 g);
     addend = (p.addend g inside).0;
     first = layable sh signs.a 2 c.vtype.sew i.vs2 left_row g sew inside p.a;
     second = wide-layable sh i.form signs.b c.vtype.sew i.vs1 g sew inside p.b;
   }
-  rows-in WideSource signs laid sew half quarter p g inside = record {
-    a = first-row list _ laid (inl (p.a g inside).0);
-    b = wide-row i.form signs.b c.vtype.sew i.vs1 g;
+  rows-in WideSource signs laid free sew half quarter p g inside = record {
+    fit = wide-rows list _ _ laid free (inl (p.a g inside).0) (wide-row i.form signs.b c.vtype.sew i.vs1 g);
     addend = (p.addend g inside).0;
     first = tt;
     second = wide-layable sh i.form signs.b c.vtype.sew i.vs1 g sew inside p.b;
   }
-  rows-in Half signs laid sew half quarter p g inside = record {
-    a = laid-row list laid;
-    b = inl (p.b g inside).0;
+  rows-in Half signs laid free sew half quarter p g inside = record {
+    fit = laid-rows list _ laid (inl (p.b g inside).0);
     addend = (p.addend g inside).0;
     first = layable sh signs.a 2 (c.vtype.sew / 2) i.vs2 result_row g (half refl) inside p.a;
     second = tt;
   }
-  rows-in Quarter signs laid sew half quarter p g inside = record {
-    a = laid-row list laid;
-    b = inl (p.b g inside).0;
+  rows-in Quarter signs laid free sew half quarter p g inside = record {
+    fit = laid-rows list _ laid (inl (p.b g inside).0);
     addend = (p.addend g inside).0;
     first = layable sh signs.a 4 (c.vtype.sew / 4) i.vs2 result_row g (quarter refl) inside p.a;
     second = tt;
@@ -497,11 +556,10 @@ module _ (r : Recipe) (o : Operation) (i : VInstr) (c : Cfg) (x : ℕ) (f : Fits
         width = facts.width;
         few = facts.place.few;
         placed = λ g inside.
-            let rows = rows-in r i c (list_for r i) (shape_in r.order i c x o) (value_in r.order i c o) (c.vlen / 32) r.order (signs_of o) (laid-for r o i c x f) facts.sew (half-width facts) (quarter-width facts) plain g inside in
+            let rows = rows-in r i c (list_for r i) (shape_in r.order i c x o) (value_in r.order i c o) (c.vlen / 32) r.order (signs_of o) (laid-for r o i c x f) (free-for r o i c x f) facts.sew (half-width facts) (quarter-width facts) plain g inside in
             record {
               vd = let room : i.vd + count_in r.order c.vtype ≤ 32 = facts.place.room in omega arith;
-              a = rw signed rows.a;
-              b = rw signed rows.b;
+              rows = rw signed rows.fit;
               addend = rw signed rows.addend;
               first = rw signed rows.first;
               second = rw signed rows.second;
@@ -514,18 +572,23 @@ module _ (r : Recipe) (o : Operation) (i : VInstr) (c : Cfg) (x : ℕ) (f : Fits
       quarter-width : GroupWritten (class_in r.order) i c.vtype (width_in r.order c.vtype.sew) → r.order ≡ Quarter → IsElementWidth (c.vtype.sew / 4)
       quarter-width facts is = source-quarter i c (subst (λ (order : Order). GroupWritten (class_in order) i c.vtype (width_in order c.vtype.sew)) is facts)
 
-  pub mask-plans : makes_bits r.masked ≡ true → MaskPlans i c
+  pub mask-plans : makes_bits r.masked ≡ true → MaskPlans r i c
   mask-plans bits =
       let groups : MaskGroups i c.vtype = legal_compare_law i c.vtype c.vstart (valid-setting c valid) legal (mask-class r o i c x f bits) in
       record {
         sew = groups.sew;
         few = groups.few;
         vd = groups.room;
-        placed = λ g inside. record {
-          vd = groups.room;
-          a = let room : i.vs2 + group_count c.vtype ≤ 32 = groups.vs2.0 in inl (omega arith);
-          b = compared-row i.form i.vs1 (group_count c.vtype) g inside (λ is. (groups.vs1 is).0);
-        };
+        placed = λ g inside.
+            let room : i.vs2 + group_count c.vtype ≤ 32 = groups.vs2.0 in
+            let first : IsSignedRow (row_of (compare_operands i).a g) = inl (omega arith) in
+            let second = compared-row i.form i.vs1 (group_count c.vtype) g inside (λ is. (groups.vs1 is).0) in
+            record {
+              vd = groups.room;
+              a = operand-row _ first;
+              b = operand-row _ second;
+              rows = plain-rows (list_for r i) _ _ (mask-laid r o i c x f bits) first second;
+            };
       }
 
   pub half-plans : makes_bits r.masked ≡ false → makes_halves r.masked ≡ true → HalfPlans r i c

@@ -27,9 +27,9 @@ use Rattle.rvv_meaning.specs.Operations.{log2}
 use Rattle.vtype_cfg.specs.declared.configuration.Cfg.{Cfg}
 use Rattle.vtype_cfg.specs.declared.vtype.Vtype.{Vtype}
 use Rattle.vec_exec.specs.declared.recipes.Listed.{Listed}
-use Rattle.vec_exec.specs.declared.recipes.Listed.TheVariants.{Bits, Sums, Truths, Choices, Shifts, Copies, Halves}
+use Rattle.vec_exec.specs.declared.recipes.Listed.TheVariants.{Bits, Sums, Truths, Choices, Shifts, Products, Divisions, Copies, Halves}
 use Rattle.vec_exec.specs.declared.recipes.Recipe.{Recipe}
-use Rattle.vec_exec.specs.Recipes.{makes_bits, makes_halves, takes_laid, length_of}
+use Rattle.vec_exec.specs.Recipes.{makes_bits, makes_halves, length_of}
 use Rattle.rvv_meaning.specs.Elementwise.{is_ones}
 use Rattle.vec_exec.specs.Programs.{reads, list_for, width_of, operands_of, halves_of, wide_lists, laid_length, IsLayable, one_half_length, free_count, register_list, register_length, registers_list, mask_register_list, mask_register_length, mask_registers_list, half_register_list, half_register_length, half_registers_list}
 use Rattle.vec_exec.proofs.Widths.{log2-is, log2-small}
@@ -71,17 +71,10 @@ bits-no-halves (Sums kind) bits = refl
 bits-no-halves (Truths kind) bits = refl
 bits-no-halves (Choices kind) bits = refl
 bits-no-halves (Shifts kind) bits = refl
+bits-no-halves (Products kind) bits = refl
+bits-no-halves (Divisions kind) bits = refl
 bits-no-halves Copies bits = refl
 bits-no-halves (Halves kind) bits = absurd (false≢true bits)
-
-pub bits-no-copy : (list : Listed) → makes_bits list ≡ true → takes_laid list ≡ false
-bits-no-copy (Bits kind) bits = refl
-bits-no-copy (Sums kind) bits = refl
-bits-no-copy (Truths kind) bits = refl
-bits-no-copy (Choices kind) bits = refl
-bits-no-copy (Shifts kind) bits = refl
-bits-no-copy Copies bits = absurd (false≢true bits)
-bits-no-copy (Halves kind) bits = refl
 
 -- ---- registers
 
@@ -269,6 +262,8 @@ half-list-few (Sums kind) w halves most = absurd (false≢true halves)
 half-list-few (Truths kind) w halves most = absurd (false≢true halves)
 half-list-few (Choices kind) w halves most = absurd (false≢true halves)
 half-list-few (Shifts kind) w halves most = absurd (false≢true halves)
+half-list-few (Products kind) w halves most = absurd (false≢true halves)
+half-list-few (Divisions kind) w halves most = absurd (false≢true halves)
 half-list-few Copies w halves most = absurd (false≢true halves)
 
 module _ (r : Recipe) (i : VInstr) (c : Cfg) (count : ℕ) (list-few : ListsFew) (few : count ≤ 8) where

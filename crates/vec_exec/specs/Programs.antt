@@ -42,7 +42,7 @@ use Rattle.rvv_meaning.specs.Operations.{log2}
 use Rattle.rvv_meaning.specs.Vectors.{Left, elements, number, left_of}
 use Rattle.vec_exec.specs.declared.recipes.Listed.{Listed}
 use Rattle.vec_exec.specs.declared.recipes.Recipe.{Recipe}
-use Rattle.vec_exec.specs.Recipes.{recipe_for, makes_bits, makes_halves, list_of, value_of, counts_of, length_of, IsFirstRow, Computes}
+use Rattle.vec_exec.specs.Recipes.{recipe_for, makes_bits, makes_halves, list_of, value_of, counts_of, length_of, FitsRows, Computes}
 
 -- whether an instruction is carried out by a program: not a gather by a vector of indices, a compression, an iota, a move
 -- to a scalar register, a configuration, a load or a store
@@ -273,8 +273,7 @@ IsLayable (narrow signed by n r row) w g = (r + g / by < 32) × IsElementWidth n
 -- register g of the destination and the rows of its operands are there
 pub record IsPlaced (r : Recipe) (i : VInstr) (c : Cfg) (g : ℕ) : Type 0 where
   pub vd : i.vd + g < 32
-  pub a : IsFirstRow (list_for r i) (row_of (operands_of r i c).a g)
-  pub b : IsOperandRow (row_of (operands_of r i c).b g)
+  pub rows : FitsRows (list_for r i) (row_of (operands_of r i c).a g) (row_of (operands_of r i c).b g)
   pub addend : (operands_of r i c).addend + g < 32
   pub first : IsLayable (operands_of r i c).a (width_of r c) g
   pub second : IsLayable (operands_of r i c).b (width_of r c) g
@@ -287,10 +286,11 @@ pub record IsHalfPlaced (r : Recipe) (i : VInstr) (c : Cfg) (g : ℕ) : Type 0 w
   pub b : (h : ℕ) → h < half_count c.vtype → IsOperandRow (row_of (halves_of r i c).b (2 * g + h)) × IsLayable (halves_of r i c).b (2 * c.vtype.sew) (2 * g + h)
 
 -- the rows of the operands of a mask are there
-pub record IsMaskPlaced (i : VInstr) (g : ℕ) : Type 0 where
+pub record IsMaskPlaced (r : Recipe) (i : VInstr) (g : ℕ) : Type 0 where
   pub vd : i.vd < 32
   pub a : IsOperandRow (row_of (compare_operands i).a g)
   pub b : IsOperandRow (row_of (compare_operands i).b g)
+  pub rows : FitsRows (list_for r i) (row_of (compare_operands i).a g) (row_of (compare_operands i).b g)
 
 -- ---- what a program is for
 

@@ -1,13 +1,18 @@
 -- The recipes of operations: which lists compute them, what these lists are, and what they cost.
-use Rattle.std.specs.Prelude.{◌≡◌, ◌*◌, ℕ, Bool, true, false, List, Option, Some, None}
+use Rattle.std.specs.Prelude.{◌≡◌, ◌*◌, ◌×◌, ℕ, Bool, true, false, List, Option, Some, None}
 use Rattle.cam_chain.specs.declared.counts.Counts.{Counts}
 use Rattle.gen_arith.specs.Kinds.{sum_takes_mask, sum_value, sum_ops, sum_counts, sum_length, truth_takes_mask, truth_value, truth_ops, truth_counts, truth_length, choice_value, choice_ops, choice_counts, choice_length}
 use Rattle.gen_arith.specs.declared.kinds.Sum.TheVariants.{Add, Sub, Adc, Sbc}
 use Rattle.gen_arith.specs.declared.kinds.Truth.TheVariants.{Madc, MadcIn, Msbc, MsbcIn, Eq, Ne, Ltu, Lt, Leu, Le, Gtu, Gt}
 use Rattle.gen_arith.specs.declared.kinds.Choice.TheVariants.{Minu, Min, Maxu, Max}
+use Rattle.gen_div.specs.Kinds.{division_value, division_ops, division_counts, division_length}
+use Rattle.gen_div.specs.Rows.{IsRowOf}
+use Rattle.gen_div.specs.declared.kinds.Division.TheVariants.{Divu, Remu, Div, Rem}
 use Rattle.gen_logic.specs.Recipes.{logic_ops, logic_counts, logic_length}
 use Rattle.gen_logic.specs.Values.{takes_mask, value_of as logic_value}
 use Rattle.gen_logic.specs.declared.kinds.Logic.TheVariants.{And, Or, Xor, Merge, First, Second}
+use Rattle.gen_mul.specs.Kinds.{product_value, product_ops, product_counts, product_length}
+use Rattle.gen_mul.specs.declared.kinds.Product.TheVariants.{Mul, Mulhu, Mulhsu, Mulh, Macc, Nmsac}
 use Rattle.gen_shift.specs.Kinds.{shift_value, shift_ops, shift_counts, shift_length, raw_ops, raw_counts, raw_length}
 use Rattle.gen_shift.specs.declared.kinds.Shift.TheVariants.{Sll, Srl, Sra}
 use Rattle.micro_ir.specs.Kinds.{Realises, Tells}
@@ -18,14 +23,14 @@ use Rattle.micro_ir.specs.WorkRows.{IsOperandRow, result_row}
 use Rattle.micro_ir.specs.declared.op.MicroOp.{MicroOp}
 use Rattle.micro_ir.specs.declared.place.Place.{Place}
 use Rattle.rvv_decode.specs.declared.instruction.OpiOp.TheVariants.{Vadd, Vsub, Vrsub, Vadc, Vsbc, Vmadc, Vmsbc, Vand, Vor, Vxor, Vsll, Vsrl, Vsra, Vmseq, Vmsne, Vmsltu, Vmslt, Vmsleu, Vmsle, Vmsgtu, Vmsgt, Vminu, Vmin, Vmaxu, Vmax, Vmerge, VmvV, Vnsrl, Vnsra}
-use Rattle.rvv_decode.specs.declared.instruction.OpmOp.TheVariants.{VzextVf2, VzextVf4, VsextVf2, VsextVf4, Vwaddu, Vwadd, Vwsubu, Vwsub, VwadduW, VwaddW, VwsubuW, VwsubW}
+use Rattle.rvv_decode.specs.declared.instruction.OpmOp.TheVariants.{Vdivu, Vdiv, Vremu, Vrem, Vmulhu, Vmul, Vmulhsu, Vmulh, Vmadd, Vnmsub, Vmacc, Vnmsac, VzextVf2, VzextVf4, VsextVf2, VsextVf4, Vwaddu, Vwadd, Vwsubu, Vwsub, VwadduW, VwaddW, VwsubuW, VwsubW}
 use Rattle.rvv_decode.specs.declared.instruction.VOp.{VOp}
 use Rattle.rvv_decode.specs.declared.instruction.VOp.TheVariants.{Opi, Opm}
 use Rattle.frame_meaning.specs.declared.Order.{Order}
-use Rattle.frame_meaning.specs.declared.Order.TheVariants.{Straight, Reversed, Second as SecondAlone, Widening, WideSource, Half, Quarter}
+use Rattle.frame_meaning.specs.declared.Order.TheVariants.{Straight, Reversed, Second as SecondAlone, Exchanged, Widening, WideSource, Half, Quarter}
 use Rattle.rvv_meaning.specs.Operations.{log2}
 use Rattle.vec_exec.specs.declared.recipes.Listed.{Listed}
-use Rattle.vec_exec.specs.declared.recipes.Listed.TheVariants.{Bits, Sums, Truths, Choices, Shifts, Copies, Halves}
+use Rattle.vec_exec.specs.declared.recipes.Listed.TheVariants.{Bits, Sums, Truths, Choices, Shifts, Products, Divisions, Copies, Halves}
 use Rattle.vec_exec.specs.declared.recipes.Recipe.{Recipe}
 
 -- one list, on operands that are as wide, or that are extended by zeros, and a signed immediate
@@ -77,6 +82,18 @@ recipe_for (Opi Vmaxu) = Some (of_two (Choices Maxu))
 recipe_for (Opi Vmax) = Some (of_two (Choices Max))
 recipe_for (Opi Vmerge) = Some (with_mask (Bits First) (Bits Merge))
 recipe_for (Opi VmvV) = Some (ordered (Bits Second) SecondAlone)
+recipe_for (Opm Vmul) = Some (of_two (Products Mul))
+recipe_for (Opm Vmulh) = Some (of_two (Products Mulh))
+recipe_for (Opm Vmulhu) = Some (of_two (Products Mulhu))
+recipe_for (Opm Vmulhsu) = Some (of_two (Products Mulhsu))
+recipe_for (Opm Vdivu) = Some (of_two (Divisions Divu))
+recipe_for (Opm Vdiv) = Some (of_two (Divisions Div))
+recipe_for (Opm Vremu) = Some (of_two (Divisions Remu))
+recipe_for (Opm Vrem) = Some (of_two (Divisions Rem))
+recipe_for (Opm Vmacc) = Some (of_two (Products Macc))
+recipe_for (Opm Vnmsac) = Some (of_two (Products Nmsac))
+recipe_for (Opm Vmadd) = Some (ordered (Products Macc) Exchanged)
+recipe_for (Opm Vnmsub) = Some (ordered (Products Nmsac) Exchanged)
 recipe_for (Opi Vnsrl) = Some (of_unsigned (Halves Srl))
 recipe_for (Opi Vnsra) = Some (of_unsigned (Halves Sra))
 recipe_for (Opm VzextVf2) = Some (ordered Copies Half)
@@ -102,6 +119,8 @@ makes_bits (Sums kind) = false
 makes_bits (Truths kind) = true
 makes_bits (Choices kind) = false
 makes_bits (Shifts kind) = false
+makes_bits (Products kind) = false
+makes_bits (Divisions kind) = false
 makes_bits Copies = false
 makes_bits (Halves kind) = false
 
@@ -117,6 +136,8 @@ takes_row (Sums kind) = sum_takes_mask kind
 takes_row (Truths kind) = truth_takes_mask kind
 takes_row (Choices kind) = false
 takes_row (Shifts kind) = false
+takes_row (Products kind) = false
+takes_row (Divisions kind) = false
 takes_row Copies = false
 takes_row (Halves kind) = false
 
@@ -125,13 +146,16 @@ abbrev pub takes_laid : Listed → Bool
 takes_laid Copies = true
 takes_laid _ = false
 
--- the row of its first operand
-abbrev pub first_row_in : (laid : Bool) → ℕ → Type 0
-first_row_in true r = r ≡ result_row
-first_row_in false r = IsOperandRow r
+-- the list needs the rows of wide operands for itself
+abbrev pub uses_wide_rows : Listed → Bool
+uses_wide_rows (Divisions kind) = true
+uses_wide_rows _ = false
 
-abbrev pub IsFirstRow : Listed → ℕ → Type 0
-IsFirstRow list r = first_row_in (takes_laid list) r
+-- the rows that the two operands of a list may have
+abbrev pub FitsRows : Listed → (a b : ℕ) → Type 0
+FitsRows Copies a b = (a ≡ result_row) × IsOperandRow b
+FitsRows (Divisions kind) a b = IsRowOf kind a × IsRowOf kind b
+FitsRows _ a b = IsOperandRow a × IsOperandRow b
 
 -- a place of these rows
 abbrev pub rows : (a b d to : ℕ) → Place
@@ -144,6 +168,8 @@ list_of (Sums kind) w a b d to = sum_ops kind w (rows a b d to)
 list_of (Truths kind) w a b d to = truth_ops kind w (rows a b d to)
 list_of (Choices kind) w a b d to = choice_ops kind w (rows a b d to)
 list_of (Shifts kind) w a b d to = shift_ops kind w (log2 w) (rows a b d to)
+list_of (Products kind) w a b d to = product_ops kind w (rows a b d to)
+list_of (Divisions kind) w a b d to = division_ops kind w (rows a b d to)
 list_of Copies w a b d to = micros w (commit w a to)
 list_of (Halves kind) w a b d to = raw_ops kind (2 * w) (log2 (2 * w)) (rows a b d to)
 
@@ -158,6 +184,8 @@ value_of (Sums kind) w a b d m = sum_value kind w a b m
 value_of (Truths kind) w a b d m = 0
 value_of (Choices kind) w a b d m = choice_value kind w a b
 value_of (Shifts kind) w a b d m = shift_value kind w (log2 w) a b
+value_of (Products kind) w a b d m = product_value kind w a b d
+value_of (Divisions kind) w a b d m = division_value kind w a b
 value_of Copies w a b d m = a
 value_of (Halves kind) w a b d m = shift_value kind (2 * w) (log2 (2 * w)) a b
 
@@ -173,6 +201,8 @@ counts_of (Sums kind) w = sum_counts kind w
 counts_of (Truths kind) w = truth_counts kind w
 counts_of (Choices kind) w = choice_counts w
 counts_of (Shifts kind) w = shift_counts kind w (log2 w)
+counts_of (Products kind) w = product_counts kind w
+counts_of (Divisions kind) w = division_counts kind w
 counts_of Copies w = counts 2 2 0
 counts_of (Halves kind) w = raw_counts kind (2 * w) (log2 (2 * w))
 
@@ -183,6 +213,8 @@ length_of (Sums kind) w = sum_length kind w
 length_of (Truths kind) w = truth_length kind w
 length_of (Choices kind) w = choice_length w
 length_of (Shifts kind) w = shift_length kind w (log2 w)
+length_of (Products kind) w = product_length kind w
+length_of (Divisions kind) w = division_length kind w
 length_of Copies w = 4
 length_of (Halves kind) w = raw_length kind (2 * w) (log2 (2 * w))
 

@@ -190,8 +190,8 @@ pub(crate) fn half_place(i: &VInstr, register: u8, half: u8) -> Place
 }
 
 // The rows of a comparison's operands for a register of their groups.
-pub(crate) fn mask_place(i: &VInstr, register: u8) -> Place
-    requires { IsMaskPlaced i.now register }
+pub(crate) fn mask_place(recipe: Recipe, i: &VInstr, register: u8) -> Place
+    requires { IsMaskPlaced recipe i.now register }
     ensures a { result.a ≡ row_of (compare_operands i.now).a register }
     ensures b { result.b ≡ row_of (compare_operands i.now).b register }
     ensures addend { result.addend ≡ i.now.vd }

@@ -6,12 +6,14 @@ ghost use Rattle.micro_ir.specs.WorkRows.{IsOperandRow};
 ghost use Rattle.vec_exec.specs.declared.recipes.Listed.{Listed};
 ghost use Rattle.rvv_decode.specs.declared.instruction.VOp.TheVariants.{Opi, Opm};
 ghost use Rattle.vec_exec.specs.Recipes as lists;
-ghost use Rattle.vec_exec.specs.Recipes.{recipe_for, list_of, counts_of, length_of, Computes, IsFirstRow};
+ghost use Rattle.vec_exec.specs.Recipes.{recipe_for, list_of, counts_of, length_of, Computes, FitsRows};
 
 use bit_laws::Width;
 use frame_meaning::{Order, Signs};
 use gen_arith::{Choice, Sum, Truth, arith_length_law, emit_choice, emit_sum, emit_truth};
+use gen_div::{Division, division_length_law, emit_division};
 use gen_logic::{Logic, emit_logic, logic_length_law};
+use gen_mul::{Product, emit_product, product_length_law};
 use gen_shift::{Shift, emit_shift, shift_length_law};
 use micro_ir::{MicroBuf, Place, emit_commit};
 use rvv_decode::{OpiOp, OpmOp, VOp};
@@ -25,6 +27,8 @@ pub(crate) enum Listed {
     Truths(Truth),
     Choices(Choice),
     Shifts(Shift),
+    Products(Product),
+    Divisions(Division),
     Copies,
     Halves(Shift),
 }
@@ -176,6 +180,18 @@ fn opm_recipe(op: OpmOp) -> Option<Recipe>
     ensures { result ≡ recipe_for (Opm op) }
 {
     let recipe = match op {
+        OpmOp::Vmul => of_two(Listed::Products(Product::Mul)),
+        OpmOp::Vmulh => of_two(Listed::Products(Product::Mulh)),
+        OpmOp::Vmulhu => of_two(Listed::Products(Product::Mulhu)),
+        OpmOp::Vmulhsu => of_two(Listed::Products(Product::Mulhsu)),
+        OpmOp::Vdivu => of_two(Listed::Divisions(Division::Divu)),
+        OpmOp::Vdiv => of_two(Listed::Divisions(Division::Div)),
+        OpmOp::Vremu => of_two(Listed::Divisions(Division::Remu)),
+        OpmOp::Vrem => of_two(Listed::Divisions(Division::Rem)),
+        OpmOp::Vmacc => of_two(Listed::Products(Product::Macc)),
+        OpmOp::Vnmsac => of_two(Listed::Products(Product::Nmsac)),
+        OpmOp::Vmadd => ordered(Listed::Products(Product::Macc), Order::Exchanged),
+        OpmOp::Vnmsub => ordered(Listed::Products(Product::Nmsac), Order::Exchanged),
         OpmOp::VzextVf2 => ordered(Listed::Copies, Order::Half),
         OpmOp::VzextVf4 => ordered(Listed::Copies, Order::Quarter),
         OpmOp::VsextVf2 => on_signed(Listed::Copies, Order::Half),
@@ -214,14 +230,15 @@ pub(crate) fn list_length_law()
     logic_length_law();
     arith_length_law();
     shift_length_law();
+    product_length_law();
+    division_length_law();
 }
 
 /// Appends a list.
 #[tactic(auto, unfolding(crate::specs::Recipes::list_of, crate::specs::Recipes::counts_of, crate::specs::Recipes::length_of, crate::specs::Recipes::Computes))]
 pub(crate) fn emit_list<W: Width>(list: Listed, at: &Place, buf: &mut MicroBuf)
     requires whole { lists.makes_halves list ≡ false }
-    requires a { IsFirstRow list at.now.a }
-    requires b { IsOperandRow at.now.b }
+    requires rows { FitsRows list at.now.a at.now.b }
     requires addend { IsOperandRow at.now.addend }
     requires to { at.now.to < 32 }
     requires room { length_of list W.BITS ≤ buf.old.spare }
@@ -236,6 +253,8 @@ pub(crate) fn emit_list<W: Width>(list: Listed, at: &Place, buf: &mut MicroBuf)
         Listed::Truths(kind) => emit_truth::<W>(buf, at, kind),
         Listed::Choices(kind) => emit_choice::<W>(buf, at, kind),
         Listed::Shifts(kind) => emit_shift::<W>(buf, at, kind),
+        Listed::Products(kind) => emit_product::<W>(buf, at, kind),
+        Listed::Divisions(kind) => emit_division::<W>(buf, at, kind),
         Listed::Copies => emit_commit(buf, at.a, at.to),
         Listed::Halves(_) => unreachable!(),
     }

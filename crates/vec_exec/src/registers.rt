@@ -171,7 +171,7 @@ fn emit_mask_register<W: Width>(
 )
     requires width { cfg.now.vtype.sew ≡ W.BITS }
     requires bits { makes_bits (list_for recipe i.now) ≡ true }
-    requires placed { IsMaskPlaced i.now register }
+    requires placed { IsMaskPlaced recipe i.now register }
     requires length { cfg.now.vlen ≤ 65536 }
     requires few { register < 8 }
     requires room { mask_register_length recipe i.now cfg.now + free_count (is_ones cfg.now.policy) register ≤ buf.old.spare }
@@ -180,7 +180,7 @@ fn emit_mask_register<W: Width>(
     ensures made { IsMaskMade recipe i.now cfg.now register }
 {
     let first = first_of::<W>(cfg, register);
-    let at = mask_place(i, register);
+    let at = mask_place(recipe, i, register);
     let mask = use_of(recipe, i);
     emit_windows::<W>(cfg, mask, first, buf);
     emit_list::<W>(mask.list, &at, buf);
@@ -204,7 +204,7 @@ pub(crate) fn emit_mask_registers<W: Width>(
 )
     requires width { cfg.now.vtype.sew ≡ W.BITS }
     requires bits { makes_bits (list_for recipe i.now) ≡ true }
-    requires placed { (g : ℕ) → g < count → IsMaskPlaced i.now g }
+    requires placed { (g : ℕ) → g < count → IsMaskPlaced recipe i.now g }
     requires length { cfg.now.vlen ≤ 65536 }
     requires few { count ≤ 8 }
     requires some { 0 < count }

@@ -1,6 +1,6 @@
-use Rattle.std.proofs.Common.{◌≡◌, ◌++◌, ◌+◌, ◌∙◌, sym, ap, arith, append_assoc}
+use Rattle.std.proofs.Common.{◌≡◌, ◌++◌, ◌+◌, ◌∙◌, inl, sym, ap, arith, append_assoc}
 use Rattle.frame_laws.specs.Classes.Operands.{laid_out}
-use Rattle.vec_exec.specs.Recipes.{IsFirstRow, list_of, Computes, length_of, counts_of}
+use Rattle.vec_exec.specs.Recipes.{list_of, Computes, length_of, counts_of}
 use Rattle.vec_exec.specs.Programs.{width_of, operands_of, laid_counts, laid_length, list_for, kind_list}
 use Rattle.vec_exec.proofs.Written.{measured-append}
 use Rattle.vec_exec.proofs.registers.emit_body.Goals as goal
@@ -14,11 +14,11 @@ emit_second-requires-clause-room g c = let room = rw c.requires.width at c.requi
 pub emit_list-requires-clause-whole : goal.emit_list-requires-clause-whole
 emit_list-requires-clause-whole g c = rw c.use_of.ensures.list c.requires.whole
 
-pub emit_list-requires-clause-a : goal.emit_list-requires-clause-a
-emit_list-requires-clause-a g c = rw (c.use_of.ensures.list, c.place-at.ensures.a) c.requires.placed.a
+pub emit_list-requires-clause-rows : goal.emit_list-requires-clause-rows
+emit_list-requires-clause-rows g c = rw (c.use_of.ensures.list, c.place-at.ensures.a, c.place-at.ensures.b) c.requires.placed.rows
 
-pub emit_list-requires-clause-b : goal.emit_list-requires-clause-b
-emit_list-requires-clause-b g c = rw c.place-at.ensures.b c.requires.placed.b
+pub emit_list-requires-clause-addend : goal.emit_list-requires-clause-addend
+emit_list-requires-clause-addend g c = rw c.place-at.ensures.addend (inl c.requires.placed.addend)
 
 pub emit_list-requires-clause-room : goal.emit_list-requires-clause-room
 emit_list-requires-clause-room g c =

@@ -2,14 +2,14 @@ use Rattle.std.proofs.Common.{◌≡◌, ◌++◌, ◌∙◌, sym, append_assoc}
 use Rattle.std.proofs.lemmas.Bool.{false≢true}
 use Rattle.vec_exec.specs.Recipes.{list_of}
 use Rattle.vec_exec.specs.Programs.{window_list, mask_register_list}
-use Rattle.vec_exec.proofs.Written.{bits-no-halves, bits-no-copy}
+use Rattle.vec_exec.proofs.Written.{bits-no-halves}
 use Rattle.vec_exec.proofs.registers.emit_mask_register.Goals as goal
 
 pub emit_list-requires-clause-whole : goal.emit_list-requires-clause-whole
 emit_list-requires-clause-whole g c = rw c.use_of-mask.ensures.list (bits-no-halves _ c.requires.bits)
 
-pub emit_list-requires-clause-a : goal.emit_list-requires-clause-a
-emit_list-requires-clause-a g c = rw (c.use_of-mask.ensures.list, c.mask_place-at.ensures.a, bits-no-copy _ c.requires.bits) c.requires.placed.a
+pub emit_list-requires-clause-rows : goal.emit_list-requires-clause-rows
+emit_list-requires-clause-rows g c = rw (c.use_of-mask.ensures.list, c.mask_place-at.ensures.a, c.mask_place-at.ensures.b) c.requires.placed.rows
 
 pub returns-clause-ops : goal.returns-clause-ops
 unfolding mask_register_list
