@@ -137,6 +137,31 @@ laid-rows (Shifts kind) b laid second = absurd (false≢true laid)
 laid-rows (Products kind) b laid second = absurd (false≢true laid)
 laid-rows (Halves kind) b laid second = absurd (false≢true laid)
 
+-- rows that fit a list are rows
+operand-small : (r : ℕ) → IsOperandRow r → r < 64
+operand-small r (inl is) = omega (arith, is)
+operand-small r (inr (inl is)) = omega (arith, is)
+operand-small r (inr (inr (inl is))) = omega (arith, is)
+operand-small r (inr (inr (inr (inl is)))) = omega (arith, is)
+operand-small r (inr (inr (inr (inr is)))) = omega (arith, is)
+
+both-small : (a b : ℕ) → IsOperandRow a × IsOperandRow b → (a < 64) × (b < 64)
+both-small a b fit = (operand-small a fit.0, operand-small b fit.1)
+
+fits-small : (list : Listed) (a b : ℕ) → FitsRows list a b → (a < 64) × (b < 64)
+fits-small (Divisions Divu) a b fit = both-small a b fit
+fits-small (Divisions Remu) a b fit = both-small a b fit
+fits-small (Divisions Div) a b fit = both-small a b (operand-row a fit.0, operand-row b fit.1)
+fits-small (Divisions Rem) a b fit = both-small a b (operand-row a fit.0, operand-row b fit.1)
+fits-small (Bits kind) a b fit = both-small a b fit
+fits-small (Sums kind) a b fit = both-small a b fit
+fits-small (Truths kind) a b fit = both-small a b fit
+fits-small (Choices kind) a b fit = both-small a b fit
+fits-small (Shifts kind) a b fit = both-small a b fit
+fits-small (Products kind) a b fit = both-small a b fit
+fits-small (Halves kind) a b fit = both-small a b fit
+fits-small Copies a b fit = let is : a ≡ 36 = fit.0 in (omega arith, operand-small b fit.1)
+
 -- an operand that can be read can be laid out
 layable : (sh : Shape) (signed : Bool) (by n first row g : ℕ) → IsElementWidth n → g < sh.registers → IsReadable sh (narrow signed by n first row) → IsLayable (narrow signed by n first row) sh.width g
 layable sh signed by n first row g wide inside readable = ((readable.1 g inside).0, wide, readable.0.times, readable.0.wide)
@@ -559,6 +584,8 @@ module _ (r : Recipe) (o : Operation) (i : VInstr) (c : Cfg) (x : ℕ) (f : Fits
             let rows = rows-in r i c (list_for r i) (shape_in r.order i c x o) (value_in r.order i c o) (c.vlen / 32) r.order (signs_of o) (laid-for r o i c x f) (free-for r o i c x f) facts.sew (half-width facts) (quarter-width facts) plain g inside in
             record {
               vd = let room : i.vd + count_in r.order c.vtype ≤ 32 = facts.place.room in omega arith;
+              a = (fits-small _ _ _ (rw signed rows.fit)).0;
+              b = (fits-small _ _ _ (rw signed rows.fit)).1;
               rows = rw signed rows.fit;
               addend = rw signed rows.addend;
               first = rw signed rows.first;
@@ -585,8 +612,8 @@ module _ (r : Recipe) (o : Operation) (i : VInstr) (c : Cfg) (x : ℕ) (f : Fits
             let second = compared-row i.form i.vs1 (group_count c.vtype) g inside (λ is. (groups.vs1 is).0) in
             record {
               vd = groups.room;
-              a = operand-row _ first;
-              b = operand-row _ second;
+              a = operand-small _ (operand-row _ first);
+              b = operand-small _ (operand-row _ second);
               rows = plain-rows (list_for r i) _ _ (mask-laid r o i c x f bits) first second;
             };
       }

@@ -273,6 +273,8 @@ IsLayable (narrow signed by n r row) w g = (r + g / by < 32) × IsElementWidth n
 -- register g of the destination and the rows of its operands are there
 pub record IsPlaced (r : Recipe) (i : VInstr) (c : Cfg) (g : ℕ) : Type 0 where
   pub vd : i.vd + g < 32
+  pub a : row_of (operands_of r i c).a g < 64
+  pub b : row_of (operands_of r i c).b g < 64
   pub rows : FitsRows (list_for r i) (row_of (operands_of r i c).a g) (row_of (operands_of r i c).b g)
   pub addend : (operands_of r i c).addend + g < 32
   pub first : IsLayable (operands_of r i c).a (width_of r c) g
@@ -288,8 +290,8 @@ pub record IsHalfPlaced (r : Recipe) (i : VInstr) (c : Cfg) (g : ℕ) : Type 0 w
 -- the rows of the operands of a mask are there
 pub record IsMaskPlaced (r : Recipe) (i : VInstr) (g : ℕ) : Type 0 where
   pub vd : i.vd < 32
-  pub a : IsOperandRow (row_of (compare_operands i).a g)
-  pub b : IsOperandRow (row_of (compare_operands i).b g)
+  pub a : row_of (compare_operands i).a g < 64
+  pub b : row_of (compare_operands i).b g < 64
   pub rows : FitsRows (list_for r i) (row_of (compare_operands i).a g) (row_of (compare_operands i).b g)
 
 -- ---- what a program is for

@@ -2,6 +2,7 @@
 ghost use Rattle.std.specs.Prelude.{◌≡◌, ℕ, ◌+◌, ◌-◌, ◌*◌, ◌/◌, ◌%◌, ◌<◌, ◌≤◌, ◌++◌, ◌∷◌, [], cond};
 ghost use Rattle.frame_laws.specs.Classes.Operands.{Operand, narrow, laid_out};
 ghost use Rattle.frame_meaning.specs.Halves.{half_in_vs1};
+ghost use Rattle.frame_meaning.specs.Shapes.{narrow_in_vs1};
 ghost use Rattle.legal_groups.specs.Facts.{IsElementWidth};
 ghost use Rattle.micro_ir.specs.Measures.{Measured};
 ghost use Rattle.vec_exec.specs.Programs.{IsPlaced, IsLayable, laid_counts, laid_length, operands_of, width_of};
@@ -24,6 +25,19 @@ struct Narrower {
     bits: u8,
     row: u8,
     signed: bool,
+}
+
+// Such a group.
+const fn narrower(first: u8, times: u8, bits: u8, row: u8, signed: bool) -> Narrower
+    ensures { result ≡ record { first = first; times = times; bits = bits; row = row; signed = signed } }
+{
+    Narrower {
+        first,
+        times,
+        bits,
+        row,
+        signed,
+    }
 }
 
 // Lays the elements of a group out for a register of elements that are wider.
@@ -66,24 +80,50 @@ pub(crate) fn emit_first<W: Width>(
     ensures spare { buf.new.spare + laid_length (operands_of recipe i.now cfg.now).a W.BITS ≡ buf.old.spare }
     ensures cost { Measured (laid_counts (operands_of recipe i.now cfg.now).a W.BITS) (laid_length (operands_of recipe i.now cfg.now).a W.BITS) (laid_out (operands_of recipe i.now cfg.now).a W.BITS register) }
 {
-    let (times, row) = match recipe.order {
-        Order::Widening => (2, LEFT_ROW),
-        Order::Half => (2, RESULT_ROW),
-        Order::Quarter => (4, RESULT_ROW),
+    match recipe.order {
+        Order::Widening => {
+            let group = narrower(i.vs2, 2, cfg.vtype.sew, LEFT_ROW, recipe.signs.a);
+            lay_out::<W>(group, register, buf);
+        }
+        Order::Half => {
+            let group = narrower(i.vs2, 2, cfg.vtype.sew / 2, RESULT_ROW, recipe.signs.a);
+            lay_out::<W>(group, register, buf);
+        }
+        Order::Quarter => {
+            let group = narrower(i.vs2, 4, cfg.vtype.sew / 4, RESULT_ROW, recipe.signs.a);
+            lay_out::<W>(group, register, buf);
+        }
         Order::Straight
         | Order::Reversed
         | Order::Second
         | Order::Exchanged
-        | Order::WideSource => return,
-    };
-    let group = Narrower {
-        first: i.vs2,
-        times,
-        bits: W::BITS as u8 / times,
-        row,
-        signed: recipe.signs.a,
-    };
-    lay_out::<W>(group, register, buf);
+        | Order::WideSource => {}
+    }
+}
+
+// Those of what stands in the place of vs1, where it is half as wide as the destination.
+fn emit_wide_second<W: Width>(
+    recipe: Recipe,
+    i: &VInstr,
+    cfg: &Cfg,
+    register: u8,
+    buf: &mut MicroBuf,
+)
+    requires layable { IsLayable (narrow_in_vs1 i.now.form recipe.signs.b cfg.now.vtype.sew i.now.vs1) W.BITS register }
+    requires room { laid_length (narrow_in_vs1 i.now.form recipe.signs.b cfg.now.vtype.sew i.now.vs1) W.BITS ≤ buf.old.spare }
+    ensures ops { buf.new.ops ≡ buf.old.ops ++ laid_out (narrow_in_vs1 i.now.form recipe.signs.b cfg.now.vtype.sew i.now.vs1) W.BITS register }
+    ensures spare { buf.new.spare + laid_length (narrow_in_vs1 i.now.form recipe.signs.b cfg.now.vtype.sew i.now.vs1) W.BITS ≡ buf.old.spare }
+    ensures cost { Measured (laid_counts (narrow_in_vs1 i.now.form recipe.signs.b cfg.now.vtype.sew i.now.vs1) W.BITS)
+        (laid_length (narrow_in_vs1 i.now.form recipe.signs.b cfg.now.vtype.sew i.now.vs1) W.BITS)
+        (laid_out (narrow_in_vs1 i.now.form recipe.signs.b cfg.now.vtype.sew i.now.vs1) W.BITS register) }
+{
+    match i.form {
+        Form::V => {
+            let group = narrower(i.vs1, 2, cfg.vtype.sew, RIGHT_ROW, recipe.signs.b);
+            lay_out::<W>(group, register, buf);
+        }
+        Form::X | Form::I => {}
+    }
 }
 
 // The same for its second operand.
@@ -101,18 +141,14 @@ pub(crate) fn emit_second<W: Width>(
     ensures spare { buf.new.spare + laid_length (operands_of recipe i.now cfg.now).b W.BITS ≡ buf.old.spare }
     ensures cost { Measured (laid_counts (operands_of recipe i.now cfg.now).b W.BITS) (laid_length (operands_of recipe i.now cfg.now).b W.BITS) (laid_out (operands_of recipe i.now cfg.now).b W.BITS register) }
 {
-    match (recipe.order, i.form) {
-        (Order::Widening | Order::WideSource, Form::V) => {
-            let group = Narrower {
-                first: i.vs1,
-                times: 2,
-                bits: cfg.vtype.sew,
-                row: RIGHT_ROW,
-                signed: recipe.signs.b,
-            };
-            lay_out::<W>(group, register, buf);
-        }
-        _ => {}
+    match recipe.order {
+        Order::Widening | Order::WideSource => emit_wide_second::<W>(recipe, i, cfg, register, buf),
+        Order::Straight
+        | Order::Reversed
+        | Order::Second
+        | Order::Exchanged
+        | Order::Half
+        | Order::Quarter => {}
     }
 }
 
@@ -123,21 +159,17 @@ pub(crate) fn emit_half_second<D: Width>(
     part: u8,
     buf: &mut MicroBuf,
 )
-    requires width { 2 * cfg.now.vtype.sew ≡ D.BITS }
     requires layable { IsLayable (half_in_vs1 i.now.form cfg.now.vtype.sew i.now.vs1) D.BITS part }
     requires room { laid_length (half_in_vs1 i.now.form cfg.now.vtype.sew i.now.vs1) D.BITS ≤ buf.old.spare }
     ensures ops { buf.new.ops ≡ buf.old.ops ++ laid_out (half_in_vs1 i.now.form cfg.now.vtype.sew i.now.vs1) D.BITS part }
     ensures spare { buf.new.spare + laid_length (half_in_vs1 i.now.form cfg.now.vtype.sew i.now.vs1) D.BITS ≡ buf.old.spare }
     ensures cost { Measured (laid_counts (half_in_vs1 i.now.form cfg.now.vtype.sew i.now.vs1) D.BITS) (laid_length (half_in_vs1 i.now.form cfg.now.vtype.sew i.now.vs1) D.BITS) (laid_out (half_in_vs1 i.now.form cfg.now.vtype.sew i.now.vs1) D.BITS part) }
 {
-    if i.form == Form::V {
-        let group = Narrower {
-            first: i.vs1,
-            times: 2,
-            bits: cfg.vtype.sew,
-            row: LEFT_ROW,
-            signed: false,
-        };
-        lay_out::<D>(group, part, buf);
+    match i.form {
+        Form::V => {
+            let group = narrower(i.vs1, 2, cfg.vtype.sew, LEFT_ROW, false);
+            lay_out::<D>(group, part, buf);
+        }
+        Form::X | Form::I => {}
     }
 }

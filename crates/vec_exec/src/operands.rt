@@ -1,14 +1,12 @@
 // The rows of an instruction's operands, and its scalar.
-ghost use Rattle.std.specs.Prelude.{◌≡◌, ◌≢◌, ◌⊎◌, ◌+◌, ◌*◌, ◌<◌};
+ghost use Rattle.std.specs.Prelude.{◌≡◌, ℕ, Bool, ◌⊎◌, ◌+◌, ◌*◌, ◌<◌};
 ghost use Rattle.bit_laws.specs.Numbers.{low};
 ghost use Rattle.bit_laws.specs.Signed.{extended};
 ghost use Rattle.frame_laws.specs.Classes.Operands.{row_of};
 ghost use Rattle.frame_meaning.specs.Halves.{half_scalar, half_in_vs1};
 ghost use Rattle.frame_meaning.specs.Masks.{compare_operands};
-ghost use Rattle.frame_meaning.specs.Shapes.{source_in_vs1, scalar_of};
+ghost use Rattle.frame_meaning.specs.Shapes.{source_in_vs1, narrow_in_vs1, scalar_of};
 ghost use Rattle.legal_groups.specs.Facts.{IsElementWidth};
-ghost use Rattle.micro_ir.specs.WorkRows.{IsOperandRow, scalar_row};
-ghost use Rattle.rvv_decode.specs.declared.instruction.Form.TheVariants.{V};
 ghost use Rattle.rvv_meaning.specs.Operations.{immediate_bits};
 ghost use Rattle.vec_exec.specs.Programs.{IsPlaced, IsMaskPlaced, operands_of, width_of};
 
@@ -100,7 +98,7 @@ pub(crate) fn half_scalar_number(i: &VInstr, cfg: &Cfg, scalar: u32) -> u32
 
 // The row of the operand in the place of vs1 for a register of the group, which is as wide as the destination.
 fn second_row(i: &VInstr, register: u8) -> u8
-    requires { IsOperandRow (row_of (source_in_vs1 i.now.form i.now.vs1) register) }
+    requires { row_of (source_in_vs1 i.now.form i.now.vs1) register < 64 }
     ensures { result ≡ row_of (source_in_vs1 i.now.form i.now.vs1) register }
 {
     match i.form {
@@ -109,13 +107,22 @@ fn second_row(i: &VInstr, register: u8) -> u8
     }
 }
 
-// The row of that operand where it is narrower, and is laid out.
-fn laid_row(i: &VInstr, row: u8) -> u8
-    ensures vector { i.now.form ≡ V → result ≡ row }
-    ensures scalar { i.now.form ≢ V → result ≡ scalar_row }
+// The row of that operand where it is half as wide as the destination, and is laid out.
+fn wide_row(i: &VInstr) -> u8
+    ensures { (signed : Bool) (sew register : ℕ) → result ≡ row_of (narrow_in_vs1 i.now.form signed sew i.now.vs1) register }
 {
     match i.form {
-        Form::V => row,
+        Form::V => RIGHT_ROW,
+        Form::X | Form::I => SCALAR_ROW,
+    }
+}
+
+// The row of that operand where the first one is twice as wide as the destination.
+fn half_row(i: &VInstr) -> u8
+    ensures { (sew part : ℕ) → result ≡ row_of (half_in_vs1 i.now.form sew i.now.vs1) part }
+{
+    match i.form {
+        Form::V => LEFT_ROW,
         Form::X | Form::I => SCALAR_ROW,
     }
 }
@@ -142,7 +149,7 @@ fn second_source(recipe: Recipe, i: &VInstr, cfg: &Cfg, register: u8) -> u8
     match recipe.order {
         Order::Straight | Order::Second | Order::Exchanged => second_row(i, register),
         Order::Reversed => i.vs2 + register,
-        Order::Widening | Order::WideSource => laid_row(i, RIGHT_ROW),
+        Order::Widening | Order::WideSource => wide_row(i),
         Order::Half | Order::Quarter => i.vd + register,
     }
 }
@@ -186,7 +193,7 @@ pub(crate) fn half_place(i: &VInstr, register: u8, half: u8) -> Place
     ensures addend { result.addend ≡ i.now.vd }
     ensures to { result.to ≡ i.now.vd }
 {
-    at_rows(i.vs2 + (2 * register + half), laid_row(i, LEFT_ROW), i.vd, i.vd)
+    at_rows(i.vs2 + (2 * register + half), half_row(i), i.vd, i.vd)
 }
 
 // The rows of a comparison's operands for a register of their groups.
