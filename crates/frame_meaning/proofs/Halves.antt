@@ -25,7 +25,7 @@ use Rattle.rvv_meaning.specs.Operations.{Operation, reads_mask, immediate_bits, 
 use Rattle.rvv_meaning.specs.Operations as meaning
 use Rattle.legal_groups.specs.Facts.{IsElementWidth, registers_for, is_read_for, ReadBeside, GroupWritten}
 use Rattle.legal_groups.proofs.Laws.{legal_group_law}
-use Rattle.legal_groups.proofs.Widths.{at_width, width-least, in_force, count, vlmax-held_at}
+use Rattle.legal_groups.proofs.Widths.{at_width, width-least, in_force, vlmax-held_at}
 use Rattle.frame_laws.specs.Shapes.{Shape, Bounded, usual_bounds}
 use Rattle.frame_laws.specs.Laws.{Framed}
 use Rattle.frame_laws.specs.Bytes as frame
@@ -40,27 +40,28 @@ use Rattle.frame_meaning.specs.Laws.{Runs}
 use Rattle.frame_meaning.specs.Costs.{cost_of, length_of, ElementsMeasured}
 use Rattle.frame_meaning.specs.Halves.{half_count, half_row, half_in_vs1, half_operands, half_scalar_in, half_scalar, half_value_in, half_elements, half_shape, half_body, half_program_in, IsOfHalves, HalvesMeaningLaw, HalvesCostLaw}
 use Rattle.frame_meaning.proofs.Meaning.{meaning_law}
-use Rattle.frame_meaning.proofs.Instructions.{Width, width-of, no_mask, reads-same}
+use Rattle.frame_meaning.proofs.Instructions.{count, Width, width-of, no_mask, reads-same}
 
 -- ---- registers of the first operand
 
 -- each half of each register of the destination has its register, and where one half alone holds elements the operand is one
 -- register
-abbrev has_halves : (n sew lmul8 : ℕ) → Bool
-has_halves n sew lmul8 = nat_le (2 * (count n sew lmul8 - 1) + cond (nat_lt lmul8 8) 1 2) (count (2 * n) sew lmul8) && (nat_le 8 lmul8 || nat_le (count (2 * n) sew lmul8) 1)
+abbrev has_halves : (sew lmul8 : ℕ) → Bool
+has_halves sew lmul8 = nat_le (2 * (count sew sew lmul8 - 1) + cond (nat_lt lmul8 8) 1 2) (count (2 * sew) sew lmul8) && (nat_le 8 lmul8 || nat_le (count (2 * sew) sew lmul8) 1)
 
-all-halves : (n : ℕ) → IsElementWidth n → list_all (λ (s : Setting). has_halves n s.sew s.lmul8) settings ≡ true
+all-halves : list_all (λ (s : Setting). has_halves s.sew s.lmul8) settings ≡ true
 unfolding settings
-all-halves n is = at_width (λ (n : ℕ). list_all (λ (s : Setting). has_halves n s.sew s.lmul8) settings ≡ true) refl refl refl n is
+all-halves = refl
 
-pub record HalvesThere (vt : Vtype) (n : ℕ) : Type 0 where
-  pub inside : (g h : ℕ) → g < registers_for vt n → h < half_count vt → 2 * g + h < registers_for vt (2 * n)
-  pub one : (half_count vt ≡ 2) ⊎ (registers_for vt (2 * n) ≤ 1)
+pub record HalvesThere (vt : Vtype) : Type 0 where
+  pub inside : (g h : ℕ) → g < registers_for vt vt.sew → h < half_count vt → 2 * g + h < registers_for vt (2 * vt.sew)
+  pub one : (half_count vt ≡ 2) ⊎ (registers_for vt (2 * vt.sew) ≤ 1)
 
-pub halves-there : (vt : Vtype) (n : ℕ) → IsElementWidth n → IsTrue (is_vill_or_supported vt) → vt.vill ≡ false → HalvesThere vt n
-halves-there vt n is setting there =
-    let all = and_parts (nat_le (2 * (registers_for vt n - 1) + half_count vt) (registers_for vt (2 * n))) (nat_le 8 vt.lmul8 || nat_le (registers_for vt (2 * n)) 1) (at_supported (has_halves n) vt (all-halves n is) (in_force vt setting there)) in
-    let most : 2 * (registers_for vt n - 1) + half_count vt ≤ registers_for vt (2 * n) = leb-true _ _ all.0 in
+pub halves-there : (vt : Vtype) → IsTrue (is_vill_or_supported vt) → vt.vill ≡ false → HalvesThere vt
+halves-there vt setting there =
+    let d = 2 * vt.sew in
+    let all = and_parts (nat_le (2 * (registers_for vt vt.sew - 1) + half_count vt) (registers_for vt d)) (nat_le 8 vt.lmul8 || nat_le (registers_for vt d) 1) (at_supported has_halves vt all-halves (in_force vt setting there)) in
+    let most : 2 * (registers_for vt vt.sew - 1) + half_count vt ≤ registers_for vt d = leb-true _ _ all.0 in
     record {
       inside = λ g h few first. omega (arith, most, few, first);
       one = ⊎_elim
@@ -169,7 +170,7 @@ module _ (o : Operation) (i : VInstr) (c : Cfg) (x : ℕ) where
       let w = width-of sew facts.sew in
       let d = width-of (2 * sew) source.width in
       let least : 8 ≤ sew = w.least in
-      let there = halves-there c.vtype sew facts.sew runs.setting facts.vill in
+      let there = halves-there c.vtype runs.setting facts.vill in
       let small : half_count c.vtype ≤ 2 = few c.vtype in
       let whole : c.vlen / (2 * sew) * (2 * sew) ≡ c.vlen = whole-register (2 * sew) c.vlen s.columns (omega arith) d.lanes runs.long in
       let held : vlmax c.vtype c.vlen ≤ registers_for c.vtype (2 * sew) * (c.vlen / (2 * sew)) = vlmax-held_at c.vtype (2 * sew) c.vlen source.width runs.setting facts.vill whole in

@@ -1,5 +1,5 @@
 -- Legal instructions whose operands are groups of elements at the same place are of the class that the frame takes.
-use Rattle.std.proofs.Common.{◌≡◌, suc, ◌+◌, ◌-◌, length, ℕ, ◌*◌, ◌/◌, ◌%◌, ◌^◌, ◌<◌, ◌≤◌, Bool, nat_le, IsTrue, eqb, true, false, cond, not, ◌&&◌, ◌||◌, ltb, List, refl, sym, ◌∙◌, ap, arith, ◌⊎◌, inr, ⊎_elim}
+use Rattle.std.proofs.Common.{◌≡◌, suc, ◌+◌, ◌-◌, length, ℕ, ◌*◌, ◌/◌, ◌%◌, ◌^◌, ◌<◌, ◌≤◌, max, Bool, nat_le, IsTrue, eqb, true, false, cond, not, ◌&&◌, ◌||◌, ltb, List, refl, sym, ◌∙◌, ap, arith, ◌⊎◌, inr, ⊎_elim}
 use Rattle.std.specs.List.{list_all}
 use Rattle.std.proofs.lemmas.Bool.{and_parts, ltb-true, leb-true, ne_eqb, cases_lt, lt-ltb, le-leb}
 use Rattle.std.proofs.lemmas.Nat.{div-add-mod', pow_pos}
@@ -28,7 +28,7 @@ use Rattle.rvv_meaning.specs.Operations.{Operation, reads_mask, immediate_bits, 
 use Rattle.rvv_meaning.specs.Operations as meaning
 use Rattle.legal_groups.specs.Facts.{IsElementWidth, registers_for, is_read_for, ReadBeside, GroupWritten}
 use Rattle.legal_groups.proofs.Laws.{legal_group_law}
-use Rattle.legal_groups.proofs.Widths.{at_width, width-least, in_force, count}
+use Rattle.legal_groups.proofs.Widths.{at_width, width-least, in_force}
 use Rattle.frame_laws.specs.Shapes.{Shape, Bounded, usual_bounds}
 use Rattle.frame_laws.specs.Laws.{Framed}
 use Rattle.frame_laws.specs.Bytes as frame
@@ -92,6 +92,10 @@ extended-fits signed n w z short small =
 
 -- ---- registers of narrower groups
 
+-- how many registers a group takes
+abbrev pub count : (w sew lmul8 : ℕ) → ℕ
+count w sew lmul8 = max 1 (lmul8 * w / sew / 8)
+
 -- a group takes no more registers, in proportion, than one whose elements are narrower
 abbrev is_fewer : (by n sew lmul8 : ℕ) → Bool
 is_fewer by n sew lmul8 = nat_le (count (by * n) sew lmul8) (by * count n sew lmul8)
@@ -152,12 +156,13 @@ whole-readable sh vt d r count beside g inside =
 narrow-readable : (sh : Shape) (vt : Vtype) (signed : Bool) (by n r row : ℕ) → 1 < by → 34 < row → AllFewer by n → IsTrue (is_vill_or_supported vt) → vt.vill ≡ false
     → by * n ≡ sh.width → sh.registers ≡ registers_for vt (by * n) → ReadBeside vt (by * n) sh.vd n r → IsReadable sh (narrow signed by n r row)
 narrow-readable sh vt signed by n r row times high fewer setting there wide count beside =
-    let least = width-least n beside.width in
-    (record { times = times; some = omega (arith, least); wide = wide; whole = (width-of n beside.width).whole; above = high },
-    λ g inside.
-    let few : g < registers_for vt (by * n) = rw (sym count) inside in
-    let held = narrow-inside vt by n g (omega arith) fewer setting there few in
-    beside.unwritten g (r + g / by) few (reads-narrow by n r (registers_for vt n) g (omega arith) (omega (arith, least)) held))
+    let least = width-least n beside.width in (
+      record { times = times; some = omega (arith, least); wide = wide; whole = (width-of n beside.width).whole; above = high },
+      λ g inside.
+          let few : g < registers_for vt (by * n) = rw (sym count) inside in
+          let held = narrow-inside vt by n g (omega arith) fewer setting there few in
+          beside.unwritten g (r + g / by) few (reads-narrow by n r (registers_for vt n) g (omega arith) (omega (arith, least)) held),
+    )
 
 -- what stands in the place of vs1
 second-readable : (sh : Shape) (f : Form) (vs1 : ℕ) → (f ≡ V → IsReadable sh (group vs1)) → sh.splat ≡ has_scalar f → sh.scalar_width ≡ sh.width → IsReadable sh (source_in_vs1 f vs1)
@@ -186,19 +191,19 @@ wide-apart I signed sew vs1 row other = refl
 pub second-value : (order : Order) (i : VInstr) (c : Cfg) (x : ℕ) (at : Row) (o : Operation) (f : Form) (v : List (List ℕ)) (e : ℕ) → width_in order c.vtype.sew ≡ c.vtype.sew → scalar_at order o.signed_b c.vtype.sew x ≡ x
     → at.vs1 ≡ group_place c.vtype.sew → meaning.value_width i c x at o ≡ c.vtype.sew → 8 ≤ c.vtype.sew → i.vs1 < 32
     → operand_of (source_in_vs1 f i.vs1) (c.vlen / 8) c.vtype.sew (scalar_in f order (signs_of o) c.vtype.sew i.vs1 x) v e ≡ meaning.second_operand i c x at o f v e
-second-value order i c x at o V v e same scalar place wide least small = rw (place, wide) (sym (extended-same o.signed_b c.vtype.sew (element_of (c.vlen / 8) v i.vs1 c.vtype.sew e)))
-second-value order i c x at o X v e same scalar place wide least small = rw (place, wide, scalar) (sym (extended-same o.signed_b c.vtype.sew _))
-second-value order i c x at o I v e same scalar place wide least small = rw (wide, same) (mod-eq_of_lt (immediate-fits o.signed_immediate c.vtype.sew i.vs1 least small))
+second-value order i c x at o V v e same cut place wide least small = rw (place, wide) (sym (extended-same o.signed_b c.vtype.sew (element_of (c.vlen / 8) v i.vs1 c.vtype.sew e)))
+second-value order i c x at o X v e same cut place wide least small = rw (place, wide, cut) (sym (extended-same o.signed_b c.vtype.sew _))
+second-value order i c x at o I v e same cut place wide least small = rw (wide, same) (mod-eq_of_lt (immediate-fits o.signed_immediate c.vtype.sew i.vs1 least small))
 
 wide-value : (order : Order) (i : VInstr) (c : Cfg) (x : ℕ) (at : Row) (o : Operation) (f : Form) (v : List (List ℕ)) (e : ℕ) → width_in order c.vtype.sew ≡ 2 * c.vtype.sew
     → scalar_at order o.signed_b c.vtype.sew x ≡ extended o.signed_b c.vtype.sew (2 * c.vtype.sew) (low c.vtype.sew x)
     → at.vs1 ≡ group_place c.vtype.sew → meaning.value_width i c x at o ≡ 2 * c.vtype.sew → 8 ≤ c.vtype.sew → i.vs1 < 32
     → operand_of (narrow_in_vs1 f o.signed_b c.vtype.sew i.vs1) (c.vlen / 8) (2 * c.vtype.sew) (scalar_in f order (signs_of o) c.vtype.sew i.vs1 x) v e ≡ meaning.second_operand i c x at o f v e
-wide-value order i c x at o V v e same scalar place wide least small = rw (place, wide) refl
-wide-value order i c x at o X v e same scalar place wide least small =
+wide-value order i c x at o V v e same cut place wide least small = rw (place, wide) refl
+wide-value order i c x at o X v e same cut place wide least small =
     let short : c.vtype.sew ≤ 2 * c.vtype.sew = omega arith in
-    rw (place, wide, scalar) (mod-eq_of_lt (extended-fits o.signed_b c.vtype.sew (2 * c.vtype.sew) (low c.vtype.sew x) short (mod-lt x (pow_pos c.vtype.sew))))
-wide-value order i c x at o I v e same scalar place wide least small =
+    rw (place, wide, cut) (mod-eq_of_lt (extended-fits o.signed_b c.vtype.sew (2 * c.vtype.sew) (low c.vtype.sew x) short (mod-lt x (pow_pos c.vtype.sew))))
+wide-value order i c x at o I v e same cut place wide least small =
     let more : 8 ≤ 2 * c.vtype.sew = omega arith in
     rw (wide, same) (mod-eq_of_lt (immediate-fits o.signed_immediate (2 * c.vtype.sew) i.vs1 more small))
 
@@ -379,12 +384,12 @@ same-value : (order : Order) (o : Operation) (i : VInstr) (c : Cfg) (x : ℕ) (v
     → o.value c.vtype.sew c.vxrm (element_of (c.vlen / 8) v i.vs2 c.vtype.sew e)
     (operand_of (source_in_vs1 i.form i.vs1) (c.vlen / 8) c.vtype.sew (scalar_in i.form order (signs_of o) c.vtype.sew i.vs1 x) v e) d m
     ≡ o.value c.vtype.sew c.vxrm (meaning.operand_a i c x (row_in Straight c.vtype.sew) o v e) (meaning.operand_b i c x (row_in Straight c.vtype.sew) o v e) d m
-same-value order o i c x v e d m same scalar least small =
+same-value order o i c x v e d m same cut least small =
     let w = c.vtype.sew in
     let at = row_in Straight w in
     let second = operand_of (source_in_vs1 i.form i.vs1) (c.vlen / 8) w (scalar_in i.form order (signs_of o) w i.vs1 x) v e in
     ap (λ (z : ℕ). o.value w c.vxrm z second d m) (sym (extended-same o.signed_a w (element_of (c.vlen / 8) v i.vs2 w e)))
-    ∙ ap (λ (z : ℕ). o.value w c.vxrm (meaning.operand_a i c x at o v e) z d m) (second-value order i c x at o i.form v e same scalar refl refl least small)
+    ∙ ap (λ (z : ℕ). o.value w c.vxrm (meaning.operand_a i c x at o v e) z d m) (second-value order i c x at o i.form v e same cut refl refl least small)
 
 -- the value of the operands that stand in the rows is that of the operands of the meaning
 values : (order : Order) (o : Operation) (i : VInstr) (c : Cfg) (x : ℕ) (v : List (List ℕ)) (e : ℕ) → Ignores order o → 8 ≤ c.vtype.sew → i.vs1 < 32

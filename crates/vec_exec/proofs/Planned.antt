@@ -206,7 +206,7 @@ record HalfLegal (i : VInstr) (c : Cfg) : Type 0 where
   written : GroupWritten narrowing i c.vtype c.vtype.sew
   source : ReadBeside c.vtype c.vtype.sew i.vd (2 * c.vtype.sew) i.vs2
   second : i.form ≡ V → ReadBeside c.vtype c.vtype.sew i.vd c.vtype.sew i.vs1
-  there : HalvesThere c.vtype c.vtype.sew
+  there : HalvesThere c.vtype
 
 -- ---- sources of other widths
 
@@ -228,7 +228,7 @@ half-legal i c setting legal class =
       written = facts;
       source = facts.sources.vs2 (2 * c.vtype.sew) refl;
       second = λ is. facts.sources.vs1 c.vtype.sew is refl;
-      there = halves-there c.vtype c.vtype.sew facts.sew setting facts.vill;
+      there = halves-there c.vtype setting facts.vill;
     }
 
 -- twice as wide an element has at most 32 bits

@@ -93,11 +93,8 @@ pub(crate) fn emit_first<W: Width>(
             let group = narrower(i.vs2, 4, cfg.vtype.sew / 4, RESULT_ROW, recipe.signs.a);
             lay_out::<W>(group, register, buf);
         }
-        Order::Straight
-        | Order::Reversed
-        | Order::Second
-        | Order::Exchanged
-        | Order::WideSource => {}
+        Order::Straight | Order::Reversed | Order::Second | Order::Exchanged | Order::WideSource =>
+            {}
     }
 }
 
@@ -153,12 +150,7 @@ pub(crate) fn emit_second<W: Width>(
 }
 
 // The same for the second operand of a half of a register, whose first operand is twice as wide.
-pub(crate) fn emit_half_second<D: Width>(
-    i: &VInstr,
-    cfg: &Cfg,
-    part: u8,
-    buf: &mut MicroBuf,
-)
+pub(crate) fn emit_half_second<D: Width>(i: &VInstr, cfg: &Cfg, part: u8, buf: &mut MicroBuf)
     requires layable { IsLayable (half_in_vs1 i.now.form cfg.now.vtype.sew i.now.vs1) D.BITS part }
     requires room { laid_length (half_in_vs1 i.now.form cfg.now.vtype.sew i.now.vs1) D.BITS ≤ buf.old.spare }
     ensures ops { buf.new.ops ≡ buf.old.ops ++ laid_out (half_in_vs1 i.now.form cfg.now.vtype.sew i.now.vs1) D.BITS part }

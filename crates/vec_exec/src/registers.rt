@@ -84,13 +84,7 @@ pub(crate) fn first_of<W: Width>(cfg: &Cfg, register: u8) -> u32
 }
 
 // The kind's list for a register of the destination, with what lays its operands out.
-fn emit_body<W: Width>(
-    recipe: Recipe,
-    i: &VInstr,
-    cfg: &Cfg,
-    register: u8,
-    buf: &mut MicroBuf,
-)
+fn emit_body<W: Width>(recipe: Recipe, i: &VInstr, cfg: &Cfg, register: u8, buf: &mut MicroBuf)
     requires width { width_of recipe cfg.now ≡ W.BITS }
     requires whole { makes_halves (list_for recipe i.now) ≡ false }
     requires placed { IsPlaced recipe i.now cfg.now register }

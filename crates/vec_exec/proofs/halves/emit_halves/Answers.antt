@@ -37,5 +37,5 @@ loop-half-preserved g c =
       spare = omega (arith, c.emit_half.ensures.spare, c.loop-half.invariant.spare);
       leaves = one-more (LeavesPart c.args.recipe c.args.i.now c.args.cfg.now c.args.register) c.loop-half.half c.loop-half.invariant.leaves c.emit_half.ensures.leaves;
       cost = rw more (subst (λ (k : Counts). Measured k ((c.loop-half.half + 1) * long) _) (halves-more c.loop-half.half counts) (subst (λ (n : ℕ). Measured _ n _) longer
-      (measured-append _ _ _ _ _ _ c.loop-half.invariant.cost c.emit_half.ensures.cost)));
+          (measured-append _ _ _ _ _ _ c.loop-half.invariant.cost c.emit_half.ensures.cost)));
     }
