@@ -33,7 +33,7 @@ use Rattle.rvv_meaning.specs.Elementwise.{Elementwise, registers_after, clips_be
 use Rattle.rvv_meaning.specs.Operations.{Operation, operation_for, on_elements, elements_at, reads_mask, log2}
 use Rattle.rvv_meaning.specs.Vectors.{left_of}
 use Rattle.frame_laws.specs.Classes.Operands.{narrow, row_of, IsReadable}
-use Rattle.frame_laws.specs.Classes.Plain.{Operands, Value, IsPlain, AllCompute}
+use Rattle.frame_laws.specs.Classes.Plain.{Operands, Value, with_operands, IsPlain, AllCompute}
 use Rattle.frame_laws.specs.Classes.Halved.{AllLeave}
 use Rattle.frame_laws.specs.Classes.Compared.{AllTell}
 use Rattle.frame_laws.specs.Programs.{program, first_registers, one_register}
@@ -268,7 +268,7 @@ half-planned r i c legal =
       placed = λ g inside. record {
         vd = let room : i.vd + registers_for c.vtype c.vtype.sew ≤ 32 = facts.place.room in omega arith;
         wide = half-built c.vtype.sew (half-narrow c.vtype.sew facts.sew legal.source.width);
-        a = λ h first. let room : i.vs2 + registers_for c.vtype (2 * c.vtype.sew) ≤ 32 = legal.source.place.room in let l = there.inside g h inside first in omega arith;
+        a = λ h first. let room : i.vs2 + registers_for c.vtype (2 * c.vtype.sew) ≤ 32 = legal.source.place.room in omega (arith, there.inside g h inside first);
         b = λ h first. let few : half_count c.vtype ≤ 2 = two c.vtype in half-second i c i.form g h facts.sew inside (omega arith) (λ is. (legal.second is).place.room);
       };
     }
@@ -375,7 +375,12 @@ module _ (r : Recipe) (o : Operation) (i : VInstr) (c : Cfg) (x : ℕ) (f : Fits
       computed : ((g : ℕ) → g < count_of r c → IsMade r i c g)
           → AllCompute (width_in r.order c.vtype.sew) i.vd (count_in r.order c.vtype) (reads_mask i o) (operands_in r.order (signs_of o) i c.vtype.sew) (value_in r.order i c o) (kind_list r i c)
       computed made g inside =
-          rw (sym signs) (lists-compute r.order o i c (list_for r i) (width_of r c) _ _ _ (i.vd + g) refl (bits-for ∙ numbers) takes-for (value-for (width_of r c)) (made g inside).computes)
+          subst
+          (λ (s : Signs). Realises (width_in r.order c.vtype.sew) (i.vd + g) (reads_mask i o)
+          (λ n m. value_in r.order i c o (n (row_of (operands_in r.order s i c.vtype.sew).a g)) (n (row_of (operands_in r.order s i c.vtype.sew).b g)) (n ((operands_in r.order s i c.vtype.sew).addend + g)) m)
+          (kind_list r i c g))
+          signs
+          (lists-compute r.order o i c (list_for r i) (width_of r c) _ _ _ (i.vd + g) refl (bits-for ∙ numbers) takes-for (value-for (width_of r c)) (made g inside).computes)
 
       -- the program as it is written
       module _ (wide : IsElementWidth (width_of r c)) where
@@ -497,55 +502,55 @@ module _ (r : Recipe) (o : Operation) (i : VInstr) (c : Cfg) (x : ℕ) (f : Fits
 
 -- the rows of the operands for register g, and that they can be laid out
 module _ (r : Recipe) (i : VInstr) (c : Cfg) (list : Listed) (sh : Shape) (value : Value) (columns : ℕ) where
-  rows-in : (order : Order) (signs : Signs) → takes_laid list ≡ takes_one_laid order → cond (has_wide_rows order) (uses_wide_rows list) false ≡ false → IsElementWidth c.vtype.sew
+  rows-in : (order : Order) (by_sign : Signs) → takes_laid list ≡ takes_one_laid order → cond (has_wide_rows order) (uses_wide_rows list) false ≡ false → IsElementWidth c.vtype.sew
       → (order ≡ Half → IsElementWidth (c.vtype.sew / 2)) → (order ≡ Quarter → IsElementWidth (c.vtype.sew / 4))
-      → IsPlain sh (operands_in order signs i c.vtype.sew) value columns → (g : ℕ) → g < sh.registers → Rows list (operands_in order signs i c.vtype.sew) sh.width g
-  rows-in Straight signs laid free sew half quarter p g inside = record {
+      → IsPlain sh (operands_in order by_sign i c.vtype.sew) value columns → (g : ℕ) → g < sh.registers → Rows list (operands_in order by_sign i c.vtype.sew) sh.width g
+  rows-in Straight by_sign laid free sew half quarter p g inside = record {
     fit = plain-rows list _ _ laid (inl (p.a g inside).0) (second-row sh i.form i.vs1 g inside p.b);
     addend = (p.addend g inside).0;
     first = tt;
     second = second-layable sh i.form i.vs1 g;
   }
-  rows-in Reversed signs laid free sew half quarter p g inside = record {
+  rows-in Reversed by_sign laid free sew half quarter p g inside = record {
     fit = plain-rows list _ _ laid (second-row sh i.form i.vs1 g inside p.a) (inl (p.b g inside).0);
     addend = (p.addend g inside).0;
     first = second-layable sh i.form i.vs1 g;
     second = tt;
   }
-  rows-in Second signs laid free sew half quarter p g inside = record {
+  rows-in Second by_sign laid free sew half quarter p g inside = record {
     fit = plain-rows list _ _ laid (inl (p.a g inside).0) (second-row sh i.form i.vs1 g inside p.b);
     addend = (p.addend g inside).0;
     first = tt;
     second = second-layable sh i.form i.vs1 g;
   }
-  rows-in Exchanged signs laid free sew half quarter p g inside = record {
+  rows-in Exchanged by_sign laid free sew half quarter p g inside = record {
     fit = plain-rows list _ _ laid (inl (p.a g inside).0) (second-row sh i.form i.vs1 g inside p.b);
     addend = (p.addend g inside).0;
     first = tt;
     second = second-layable sh i.form i.vs1 g;
   }
-  rows-in Widening signs laid free sew half quarter p g inside = record {
-    fit = wide-rows list _ _ laid free (inr (inr (inr (inl refl)))) (wide-row i.form signs.b c.vtype.sew i.vs1 g);
+  rows-in Widening by_sign laid free sew half quarter p g inside = record {
+    fit = wide-rows list _ _ laid free (inr (inr (inr (inl refl)))) (wide-row i.form by_sign.b c.vtype.sew i.vs1 g);
     addend = (p.addend g inside).0;
-    first = layable sh signs.a 2 c.vtype.sew i.vs2 left_row g sew inside p.a;
-    second = wide-layable sh i.form signs.b c.vtype.sew i.vs1 g sew inside p.b;
+    first = layable sh by_sign.a 2 c.vtype.sew i.vs2 left_row g sew inside p.a;
+    second = wide-layable sh i.form by_sign.b c.vtype.sew i.vs1 g sew inside p.b;
   }
-  rows-in WideSource signs laid free sew half quarter p g inside = record {
-    fit = wide-rows list _ _ laid free (inl (p.a g inside).0) (wide-row i.form signs.b c.vtype.sew i.vs1 g);
+  rows-in WideSource by_sign laid free sew half quarter p g inside = record {
+    fit = wide-rows list _ _ laid free (inl (p.a g inside).0) (wide-row i.form by_sign.b c.vtype.sew i.vs1 g);
     addend = (p.addend g inside).0;
     first = tt;
-    second = wide-layable sh i.form signs.b c.vtype.sew i.vs1 g sew inside p.b;
+    second = wide-layable sh i.form by_sign.b c.vtype.sew i.vs1 g sew inside p.b;
   }
-  rows-in Half signs laid free sew half quarter p g inside = record {
+  rows-in Half by_sign laid free sew half quarter p g inside = record {
     fit = laid-rows list _ laid (inl (p.b g inside).0);
     addend = (p.addend g inside).0;
-    first = layable sh signs.a 2 (c.vtype.sew / 2) i.vs2 result_row g (half refl) inside p.a;
+    first = layable sh by_sign.a 2 (c.vtype.sew / 2) i.vs2 result_row g (half refl) inside p.a;
     second = tt;
   }
-  rows-in Quarter signs laid free sew half quarter p g inside = record {
+  rows-in Quarter by_sign laid free sew half quarter p g inside = record {
     fit = laid-rows list _ laid (inl (p.b g inside).0);
     addend = (p.addend g inside).0;
-    first = layable sh signs.a 4 (c.vtype.sew / 4) i.vs2 result_row g (quarter refl) inside p.a;
+    first = layable sh by_sign.a 4 (c.vtype.sew / 4) i.vs2 result_row g (quarter refl) inside p.a;
     second = tt;
   }
 
@@ -584,8 +589,8 @@ module _ (r : Recipe) (o : Operation) (i : VInstr) (c : Cfg) (x : ℕ) (f : Fits
             let rows = rows-in r i c (list_for r i) (shape_in r.order i c x o) (value_in r.order i c o) (c.vlen / 32) r.order (signs_of o) (laid-for r o i c x f) (free-for r o i c x f) facts.sew (half-width facts) (quarter-width facts) plain g inside in
             record {
               vd = let room : i.vd + count_in r.order c.vtype ≤ 32 = facts.place.room in omega arith;
-              a = (fits-small _ _ _ (rw signed rows.fit)).0;
-              b = (fits-small _ _ _ (rw signed rows.fit)).1;
+              a = rw signed (fits-small _ _ _ rows.fit).0;
+              b = rw signed (fits-small _ _ _ rows.fit).1;
               rows = rw signed rows.fit;
               addend = rw signed rows.addend;
               first = rw signed rows.first;
@@ -634,7 +639,8 @@ module _ (r : Recipe) (o : Operation) (i : VInstr) (c : Cfg) (x : ℕ) (f : Fits
   elements-measured numbers unhalved made small =
       rw (elements-list r o i c x f numbers unhalved (plans numbers unhalved).width)
       (elements_cost_law r.order o i c x (kind_list r i c) (blank (c.vlen / 32)) _ _ (runs (blank (c.vlen / 32)) whole small) (class r o i c x f numbers unhalved)
-      (λ g inside. rw (sym (signs r o i c x f)) (made g inside).cost))
+      (λ g inside.
+      subst (λ (s : Signs). Measured (body_counts r i c) (body_length r i c) (with_operands (width_of r c) (operands_in r.order s i c.vtype.sew) (kind_list r i c) g)) (signs r o i c x f) (made g inside).cost))
 
   -- ---- programs of halves
 

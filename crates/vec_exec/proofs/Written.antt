@@ -6,9 +6,13 @@ use Rattle.std.proofs.Math.Nat.{mod-eq_of_lt, mod-lt, mul-le-mul_right}
 use Rattle.cam_chain.specs.declared.counts.Counts.{Counts}
 use Rattle.cam_chain.specs.ChainValue.{no_counts}
 use Rattle.frame_laws.specs.Classes.Halved.{halves_row, half_list, halves_list}
-use Rattle.frame_laws.specs.Classes.Operands.{Operand, group, scalar, narrow}
+use Rattle.frame_laws.specs.Classes.Operands.{Operand, group, scalar, narrow, laid_out}
 use Rattle.frame_laws.specs.Costs.{counts_times}
-use Rattle.frame_meaning.specs.Halves.{half_count}
+use Rattle.frame_meaning.specs.Halves.{half_count, half_in_vs1}
+use Rattle.frame_meaning.specs.Shapes.{source_in_vs1, narrow_in_vs1, operands_in}
+use Rattle.frame_meaning.specs.declared.Order.{Order}
+use Rattle.frame_meaning.specs.declared.Order.TheVariants.{Straight, Reversed, Second, Exchanged, Widening, WideSource, Half, Quarter}
+use Rattle.frame_meaning.specs.declared.Signs.{Signs}
 use Rattle.gen_shift.specs.Kinds.{raw_length}
 use Rattle.gen_shift.specs.Rows.{is_odd, shift_role, shifted_row}
 use Rattle.gen_shift.specs.declared.kinds.Shift.{Shift}
@@ -22,6 +26,8 @@ use Rattle.micro_ir.specs.declared.op.MicroOp.TheVariants.{Narrow, Spread}
 use Rattle.steer_net.specs.Moves.{is_wide}
 use Rattle.steer_net.specs.Network.{is_width}
 use Rattle.micro_ir.proofs.Lists.{no_counts-and, tally-none, tally-one, tally-append, AllInRange-none, AllInRange-one, AllInRange-append}
+use Rattle.rvv_decode.specs.declared.instruction.Form.{Form}
+use Rattle.rvv_decode.specs.declared.instruction.Form.TheVariants.{V, X, I}
 use Rattle.rvv_decode.specs.declared.instruction.VInstr.{VInstr}
 use Rattle.rvv_meaning.specs.Operations.{log2}
 use Rattle.vtype_cfg.specs.declared.configuration.Cfg.{Cfg}
@@ -31,7 +37,7 @@ use Rattle.vec_exec.specs.declared.recipes.Listed.TheVariants.{Bits, Sums, Truth
 use Rattle.vec_exec.specs.declared.recipes.Recipe.{Recipe}
 use Rattle.vec_exec.specs.Recipes.{makes_bits, makes_halves, length_of}
 use Rattle.rvv_meaning.specs.Elementwise.{is_ones}
-use Rattle.vec_exec.specs.Programs.{reads, list_for, width_of, operands_of, halves_of, wide_lists, laid_length, IsLayable, one_half_length, free_count, register_list, register_length, registers_list, mask_register_list, mask_register_length, mask_registers_list, half_register_list, half_register_length, half_registers_list}
+use Rattle.vec_exec.specs.Programs.{reads, list_for, width_of, operands_of, halves_of, wide_lists, laid_length, laid_counts, IsLayable, one_half_length, free_count, register_list, register_length, registers_list, mask_register_list, mask_register_length, mask_registers_list, half_register_list, half_register_length, half_registers_list}
 use Rattle.vec_exec.proofs.Widths.{log2-is, log2-small}
 
 -- a width that divides a word is at most one
@@ -168,6 +174,56 @@ measured-append a b m n xs ys x y = record {
   range = λ columns. AllInRange-append columns xs ys (x.range columns) (y.range columns);
 }
 
+pub measured-same : (a b : Counts) (m n : ℕ) (xs : List MicroOp) → a ≡ b → m ≡ n → Measured a m xs → Measured b n xs
+measured-same a b m n xs same long x = subst (λ (k : Counts). Measured k n xs) same (subst (λ (l : ℕ). Measured a l xs) long x)
+
+-- what is not narrower is not laid out
+pub record Unlaid (op : Operand) (w g : ℕ) : Type 0 where
+  pub list : laid_out op w g ≡ []
+  pub long : laid_length op w ≡ 0
+  pub cost : Measured (laid_counts op w) (laid_length op w) (laid_out op w g)
+
+unlaid-group : (r w g : ℕ) → Unlaid (group r) w g
+unlaid-group r w g = record { list = refl; long = refl; cost = measured-none }
+
+unlaid-scalar : (w g : ℕ) → Unlaid scalar w g
+unlaid-scalar w g = record { list = refl; long = refl; cost = measured-none }
+
+unlaid-second : (form : Form) (vs1 w g : ℕ) → Unlaid (source_in_vs1 form vs1) w g
+unlaid-second V vs1 w g = unlaid-group vs1 w g
+unlaid-second X vs1 w g = unlaid-scalar w g
+unlaid-second I vs1 w g = unlaid-scalar w g
+
+pub unlaid-wide : (form : Form) (signed : Bool) (sew vs1 w g : ℕ) → (form ≡ V → ⊥) → Unlaid (narrow_in_vs1 form signed sew vs1) w g
+unlaid-wide V signed sew vs1 w g other = absurd (other refl)
+unlaid-wide X signed sew vs1 w g other = unlaid-scalar w g
+unlaid-wide I signed sew vs1 w g other = unlaid-scalar w g
+
+pub unlaid-half : (form : Form) (sew vs1 w g : ℕ) → (form ≡ V → ⊥) → Unlaid (half_in_vs1 form sew vs1) w g
+unlaid-half V sew vs1 w g other = absurd (other refl)
+unlaid-half X sew vs1 w g other = unlaid-scalar w g
+unlaid-half I sew vs1 w g other = unlaid-scalar w g
+
+pub unlaid-first : (order : Order) (signs : Signs) (i : VInstr) (sew w g : ℕ) → (order ≡ Widening → ⊥) → (order ≡ Half → ⊥) → (order ≡ Quarter → ⊥) → Unlaid (operands_in order signs i sew).a w g
+unlaid-first Straight signs i sew w g a b c = unlaid-group i.vs2 w g
+unlaid-first Reversed signs i sew w g a b c = unlaid-second i.form i.vs1 w g
+unlaid-first Second signs i sew w g a b c = unlaid-group i.vd w g
+unlaid-first Exchanged signs i sew w g a b c = unlaid-group i.vd w g
+unlaid-first Widening signs i sew w g a b c = absurd (a refl)
+unlaid-first WideSource signs i sew w g a b c = unlaid-group i.vs2 w g
+unlaid-first Half signs i sew w g a b c = absurd (b refl)
+unlaid-first Quarter signs i sew w g a b c = absurd (c refl)
+
+pub unlaid-last : (order : Order) (signs : Signs) (i : VInstr) (sew w g : ℕ) → (order ≡ Widening → ⊥) → (order ≡ WideSource → ⊥) → Unlaid (operands_in order signs i sew).b w g
+unlaid-last Straight signs i sew w g a b = unlaid-second i.form i.vs1 w g
+unlaid-last Reversed signs i sew w g a b = unlaid-group i.vs2 w g
+unlaid-last Second signs i sew w g a b = unlaid-second i.form i.vs1 w g
+unlaid-last Exchanged signs i sew w g a b = unlaid-second i.form i.vs1 w g
+unlaid-last Widening signs i sew w g a b = absurd (a refl)
+unlaid-last WideSource signs i sew w g a b = absurd (b refl)
+unlaid-last Half signs i sew w g a b = unlaid-group i.vd w g
+unlaid-last Quarter signs i sew w g a b = unlaid-group i.vd w g
+
 -- the widths of an operand that is laid out
 pub narrower-than : (by n w : ℕ) → IsElementWidth n → 1 < by → by * n ≡ w → (0 < n) × (n < w)
 narrower-than by n w wide times same =
@@ -199,7 +255,7 @@ measured-spread r by n w row g layable built work =
 pub measured-signed : (r by n w row g : ℕ) (extend : List MicroOp) → IsLayable (narrow true by n r row) w g → is_width w ≡ true → row < 64 → Measured (counts (w - n) (w - n) (w - n)) (3 * (w - n)) extend
     → Measured (counts (w - n) (w - n) (w - n)) (1 + 3 * (w - n)) (Spread (r + g / by) row n w (g % by) ∷ extend)
 measured-signed r by n w row g extend layable built work measured =
-    subst (λ (k : Counts). Measured k _ _) (no_counts-and _) (measured-append _ _ _ _ (Spread (r + g / by) row n w (g % by) ∷ []) extend (measured-spread r by n w row g layable built work) measured)
+    measured-same _ _ _ _ _ (no_counts-and _) refl (measured-append _ _ _ _ (Spread (r + g / by) row n w (g % by) ∷ []) extend (measured-spread r by n w row g layable built work) measured)
 
 -- a width that divides a word and is at least 8 is built
 pub width-built : (w l : ℕ) → w ≡ 2 ^ l → 32 % w ≡ 0 → 8 ≤ w → is_width w ≡ true

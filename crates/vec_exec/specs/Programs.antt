@@ -14,7 +14,6 @@ use Rattle.frame_meaning.specs.Costs.{cost_of}
 use Rattle.frame_meaning.specs.Masks.{compare_cost_of, compare_operands}
 use Rattle.frame_meaning.specs.Halves.{half_count, half_operands, half_scalar}
 use Rattle.frame_meaning.specs.Shapes.{has_scalar, scalar_of, width_in, count_in, operands_in}
-use Rattle.frame_meaning.specs.declared.Order.TheVariants.{Straight}
 use Rattle.gen_shift.specs.Laws.{LeavesValue}
 use Rattle.gen_shift.specs.Rows.{shifted_row, shift_rows}
 use Rattle.legal_groups.specs.Facts.{IsElementWidth, registers_for, group_count}
@@ -112,8 +111,8 @@ laid_length (narrow signed by n r row) w = 1 + cond signed (3 * (w - n)) 0
 -- ---- the parts of a program
 
 -- the operations that put a number into the scalar's row, at a width, where there is a scalar
-abbrev pub scalar_list : VInstr → (width number : ℕ) → List MicroOp
-scalar_list i width number = cond (has_scalar i.form) (micros width (splat width number)) []
+abbrev pub scalar_list : VInstr → (width x : ℕ) → List MicroOp
+scalar_list i width x = cond (has_scalar i.form) (micros width (splat width x)) []
 
 -- the operations that mark the elements of a register, and lay out their mask bits where the mask is an operand
 abbrev pub window_list : Cfg → (width : ℕ) → (reads masked : Bool) → (first : ℕ) → List MicroOp
@@ -239,7 +238,7 @@ module _ (r : Recipe) (i : VInstr) (c : Cfg) where
   element_program x = scalar_list i (width_of r c) (scalar_of r.order r.signs i c.vtype.sew x) ++ registers_list (count_of r c)
 
   abbrev pub mask_program : (scalar : ℕ) → List MicroOp
-  mask_program x = scalar_list i c.vtype.sew (scalar_of Straight r.signs i c.vtype.sew x) ++ (mask_registers_list (group_count c.vtype) ++ mask_fill_list c i.vd)
+  mask_program x = scalar_list i c.vtype.sew (scalar_of r.order r.signs i c.vtype.sew x) ++ (mask_registers_list (group_count c.vtype) ++ mask_fill_list c i.vd)
 
   abbrev pub half_program : (scalar : ℕ) → List MicroOp
   half_program x = scalar_list i (2 * c.vtype.sew) (half_scalar i c.vtype.sew x) ++ half_registers_list (registers_for c.vtype c.vtype.sew)

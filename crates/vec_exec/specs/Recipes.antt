@@ -1,5 +1,5 @@
 -- The recipes of operations: which lists compute them, what these lists are, and what they cost.
-use Rattle.std.specs.Prelude.{◌≡◌, ◌*◌, ◌×◌, ℕ, Bool, true, false, List, Option, Some, None}
+use Rattle.std.specs.Prelude.{◌≡◌, ◌*◌, ℕ, Bool, true, false, List, Option, Some, None}
 use Rattle.cam_chain.specs.declared.counts.Counts.{Counts}
 use Rattle.gen_arith.specs.Kinds.{sum_takes_mask, sum_value, sum_ops, sum_counts, sum_length, truth_takes_mask, truth_value, truth_ops, truth_counts, truth_length, choice_value, choice_ops, choice_counts, choice_length}
 use Rattle.gen_arith.specs.declared.kinds.Sum.TheVariants.{Add, Sub, Adc, Sbc}

@@ -28,7 +28,7 @@ struct Narrower {
 }
 
 // Such a group.
-const fn narrower(first: u8, times: u8, bits: u8, row: u8, signed: bool) -> Narrower
+const fn narrow_group(first: u8, times: u8, bits: u8, row: u8, signed: bool) -> Narrower
     ensures { result ≡ record { first = first; times = times; bits = bits; row = row; signed = signed } }
 {
     Narrower {
@@ -82,19 +82,18 @@ pub(crate) fn emit_first<W: Width>(
 {
     match recipe.order {
         Order::Widening => {
-            let group = narrower(i.vs2, 2, cfg.vtype.sew, LEFT_ROW, recipe.signs.a);
+            let group = narrow_group(i.vs2, 2, cfg.vtype.sew, LEFT_ROW, recipe.signs.a);
             lay_out::<W>(group, register, buf);
         }
         Order::Half => {
-            let group = narrower(i.vs2, 2, cfg.vtype.sew / 2, RESULT_ROW, recipe.signs.a);
+            let group = narrow_group(i.vs2, 2, cfg.vtype.sew / 2, RESULT_ROW, recipe.signs.a);
             lay_out::<W>(group, register, buf);
         }
         Order::Quarter => {
-            let group = narrower(i.vs2, 4, cfg.vtype.sew / 4, RESULT_ROW, recipe.signs.a);
+            let group = narrow_group(i.vs2, 4, cfg.vtype.sew / 4, RESULT_ROW, recipe.signs.a);
             lay_out::<W>(group, register, buf);
         }
-        Order::Straight | Order::Reversed | Order::Second | Order::Exchanged | Order::WideSource =>
-            {}
+        _ => {}
     }
 }
 
@@ -116,10 +115,10 @@ fn emit_wide_second<W: Width>(
 {
     match i.form {
         Form::V => {
-            let group = narrower(i.vs1, 2, cfg.vtype.sew, RIGHT_ROW, recipe.signs.b);
+            let group = narrow_group(i.vs1, 2, cfg.vtype.sew, RIGHT_ROW, recipe.signs.b);
             lay_out::<W>(group, register, buf);
         }
-        Form::X | Form::I => {}
+        _ => {}
     }
 }
 
@@ -139,13 +138,9 @@ pub(crate) fn emit_second<W: Width>(
     ensures cost { Measured (laid_counts (operands_of recipe i.now cfg.now).b W.BITS) (laid_length (operands_of recipe i.now cfg.now).b W.BITS) (laid_out (operands_of recipe i.now cfg.now).b W.BITS register) }
 {
     match recipe.order {
-        Order::Widening | Order::WideSource => emit_wide_second::<W>(recipe, i, cfg, register, buf),
-        Order::Straight
-        | Order::Reversed
-        | Order::Second
-        | Order::Exchanged
-        | Order::Half
-        | Order::Quarter => {}
+        Order::Widening => emit_wide_second::<W>(recipe, i, cfg, register, buf),
+        Order::WideSource => emit_wide_second::<W>(recipe, i, cfg, register, buf),
+        _ => {}
     }
 }
 
@@ -159,9 +154,9 @@ pub(crate) fn emit_half_second<D: Width>(i: &VInstr, cfg: &Cfg, part: u8, buf: &
 {
     match i.form {
         Form::V => {
-            let group = narrower(i.vs1, 2, cfg.vtype.sew, LEFT_ROW, false);
+            let group = narrow_group(i.vs1, 2, cfg.vtype.sew, LEFT_ROW, false);
             lay_out::<D>(group, part, buf);
         }
-        Form::X | Form::I => {}
+        _ => {}
     }
 }

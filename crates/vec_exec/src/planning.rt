@@ -95,7 +95,8 @@ fn emit_element_program<W: Width>(
 {
     list_length_law();
     let number = scalar_number(recipe, i, cfg, scalar);
-    let count = registers(cfg, W::BITS as u8);
+    let bits = width(recipe, cfg);
+    let count = registers(cfg, bits);
     emit_scalar::<W>(i, number, buf);
     emit_registers::<W>(recipe, i, cfg, count, buf);
 }
@@ -124,7 +125,7 @@ fn emit_mask_program<W: Width>(
 {
     list_length_law();
     let number = scalar_number(recipe, i, cfg, scalar);
-    let count = registers(cfg, W::BITS as u8);
+    let count = registers(cfg, cfg.vtype.sew);
     emit_scalar::<W>(i, number, buf);
     emit_mask_registers::<W>(recipe, i, cfg, count, buf);
     emit_mask_fill::<W>(cfg, i.vd, buf);

@@ -1,5 +1,5 @@
 // The operations on the registers of a group.
-ghost use Rattle.std.specs.Prelude.{◌≡◌, ℕ, ◌+◌, ◌*◌, ◌/◌, ◌<◌, ◌≤◌, ◌++◌, cond};
+ghost use Rattle.std.specs.Prelude.{◌≡◌, ℕ, ◌+◌, ◌*◌, ◌/◌, ◌<◌, ◌≤◌, ◌++◌, cond, true, false};
 ghost use Rattle.rvv_meaning.specs.Elementwise.{is_ones};
 ghost use Rattle.vec_exec.specs.Recipes.{makes_bits, makes_halves};
 ghost use Rattle.vec_exec.specs.Programs.{IsPlaced, IsMaskPlaced, IsMade, IsMaskMade, width_of, fill_list, window_list, list_for, body_list, body_length, register_list, register_length, registers_list, free_bits, free_count, mask_register_list, mask_register_length, mask_registers_list, mask_fill_list, reads, masked};

@@ -1,4 +1,4 @@
-use Rattle.std.proofs.Common.{◌≡◌, ℕ, ◌+◌, ◌*◌, ◌<◌, ◌≤◌, ◌++◌, List, [], ◌∷◌, inl, sym, ◌∙◌, ap, subst, arith, append_assoc}
+use Rattle.std.proofs.Common.{◌≡◌, ℕ, ◌+◌, ◌*◌, ◌<◌, ◌≤◌, ◌++◌, List, [], ◌∷◌, inl, refl, sym, ◌∙◌, ap, arith, append_assoc}
 use Rattle.cam_chain.specs.declared.counts.Counts.{Counts}
 use Rattle.frame_laws.specs.Classes.Halved.{halves_row}
 use Rattle.micro_ir.specs.Measures.{Measured}
@@ -9,20 +9,20 @@ use Rattle.vec_exec.proofs.Widths.{log2-is}
 use Rattle.gen_shift.specs.Rows.{shifted_row}
 use Rattle.micro_ir.proofs.Lists.{counts_and-none}
 use Rattle.rvv_meaning.specs.Operations.{log2}
-use Rattle.vec_exec.proofs.Written.{measured-append, measured-narrow, shifted-low, half-few}
+use Rattle.vec_exec.proofs.Written.{measured-append, measured-same, measured-narrow, shifted-low, half-few}
 use Rattle.vec_exec.proofs.halves.emit_half.Goals as goal
 
-pub half_place-requires-clause-vs2 : goal.half_place-requires-clause-vs2
-half_place-requires-clause-vs2 g c = c.requires.placed.a c.args.half c.requires.half
+pub half_place-at-requires : goal.half_place-at-requires
+half_place-at-requires g c = record { vs2 = c.requires.placed.a c.args.half c.requires.half }
 
 pub emit_half_second-requires-clause-layable : goal.emit_half_second-requires-clause-layable
 emit_half_second-requires-clause-layable g c = rw (sym c.requires.width) (c.requires.placed.b c.args.half c.requires.half).1
 
 pub emit_half_second-requires-clause-room : goal.emit_half_second-requires-clause-room
-emit_half_second-requires-clause-room g c = rw (sym c.requires.width) (let room = c.requires.room in omega arith)
+emit_half_second-requires-clause-room g c = rw (sym c.requires.width) (omega (arith, c.requires.room))
 
 pub emit_wide-requires-clause-halves : goal.emit_wide-requires-clause-halves
-emit_wide-requires-clause-halves g c = rw c.use_of.ensures.list c.requires.halves
+emit_wide-requires-clause-halves g c = rw c.use_of-list.ensures.list c.requires.halves
 
 pub emit_wide-requires-clause-a : goal.emit_wide-requires-clause-a
 emit_wide-requires-clause-a g c = rw c.half_place-at.ensures.a (inl (c.requires.placed.a c.args.half c.requires.half))
@@ -32,8 +32,7 @@ emit_wide-requires-clause-b g c = rw (c.half_place-at.ensures.b c.args.cfg.now.v
 
 pub emit_wide-requires-clause-room : goal.emit_wide-requires-clause-room
 emit_wide-requires-clause-room g c =
-    let room = c.requires.room in
-    rw c.use_of.ensures.list (omega (arith, rw (sym c.requires.width) at c.emit_half_second.ensures.spare))
+    rw c.use_of-list.ensures.list (omega (arith, c.requires.room, rw (sym c.requires.width) at c.emit_half_second.ensures.spare))
 
 pub returns-clause-ops : goal.returns-clause-ops
 returns-clause-ops g c =
@@ -46,15 +45,16 @@ returns-clause-ops g c =
       c.half_place-at.ensures.b c.args.cfg.now.vtype.sew,
       c.half_place-at.ensures.addend,
       c.half_place-at.ensures.to,
-      c.use_of.ensures.list,
+      c.use_of-list.ensures.list,
       c.raw_row-from.ensures,
+      c.BITS.ensures,
       sym log,
       sym c.requires.width,
     ) (simp append_assoc)
 
 pub returns-clause-spare : goal.returns-clause-spare
 returns-clause-spare g c =
-    omega (arith, c.push.ensures.spare, rw c.use_of.ensures.list at c.emit_wide.ensures.spare, rw (sym c.requires.width) at c.emit_half_second.ensures.spare)
+    omega (arith, c.push.ensures.spare, rw c.use_of-list.ensures.list at c.emit_wide.ensures.spare, rw (sym c.requires.width) at c.emit_half_second.ensures.spare)
 
 pub returns-clause-leaves : goal.returns-clause-leaves
 returns-clause-leaves g c =
@@ -63,7 +63,7 @@ returns-clause-leaves g c =
       c.half_place-at.ensures.b c.args.cfg.now.vtype.sew,
       c.half_place-at.ensures.addend,
       c.half_place-at.ensures.to,
-      c.use_of.ensures.list,
+      c.use_of-list.ensures.list,
     ) at c.emit_wide.ensures.leaves
 
 pub returns-clause-cost : goal.returns-clause-cost
@@ -73,8 +73,8 @@ returns-clause-cost g c =
       c.half_place-at.ensures.b c.args.cfg.now.vtype.sew,
       c.half_place-at.ensures.addend,
       c.half_place-at.ensures.to,
-      c.use_of.ensures.list,
+      c.use_of-list.ensures.list,
     ) at c.emit_wide.ensures.cost in
     let laid = rw (sym c.requires.width) at c.emit_half_second.ensures.cost in
-    let narrow = measured-narrow (shifted_row (log2 (2 * c.args.cfg.now.vtype.sew))) (2 * c.args.cfg.now.vtype.sew) c.args.half (shifted-low _) c.requires.placed.wide (let few = half-few c.args.cfg.now.vtype in let first = c.requires.half in omega arith) in
-    measured-append _ _ _ _ _ _ laid (subst (λ (k : Counts). Measured k _ _) (counts_and-none _) (measured-append _ _ _ _ _ _ wide narrow))
+    let narrow = measured-narrow (shifted_row (log2 (2 * c.args.cfg.now.vtype.sew))) (2 * c.args.cfg.now.vtype.sew) c.args.half (shifted-low _) c.requires.placed.wide (omega (arith, half-few c.args.cfg.now.vtype, c.requires.half)) in
+    measured-append _ _ _ _ _ _ laid (measured-same _ _ _ _ _ (counts_and-none _) refl (measured-append _ _ _ _ _ _ wide narrow))

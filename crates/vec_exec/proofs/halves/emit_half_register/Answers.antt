@@ -5,15 +5,15 @@ use Rattle.vec_exec.proofs.Written.{measured-append}
 use Rattle.vec_exec.proofs.halves.emit_half_register.Goals as goal
 
 pub emit_commit-requires-clause-room : goal.emit_commit-requires-clause-room
-emit_commit-requires-clause-room g c = let room = c.requires.room in omega (arith, rw c.requires.halves at c.emit_halves.ensures.spare, rw c.use_of-mask.ensures.reads at c.emit_windows.ensures.spare)
+emit_commit-requires-clause-room g c = omega (arith, c.requires.room, rw c.requires.halves at c.emit_halves.ensures.spare, rw c.use_of-mask.ensures.reads at c.emit_windows.ensures.spare)
 
 pub emit_halves-requires-clause-room : goal.emit_halves-requires-clause-room
-emit_halves-requires-clause-room g c = let room = c.requires.room in rw c.requires.halves (omega (arith, rw c.use_of-mask.ensures.reads at c.emit_windows.ensures.spare))
+emit_halves-requires-clause-room g c = rw c.requires.halves (omega (arith, c.requires.room, rw c.use_of-mask.ensures.reads at c.emit_windows.ensures.spare))
 
 pub returns-clause-ops : goal.returns-clause-ops
 unfolding half_register_list
 returns-clause-ops g c =
-    let some : 0 < g.W.Width.BITS = let least = g.met.W.Width.least in omega arith in
+    let some : 0 < g.W.Width.BITS = omega (arith, g.met.W.Width.least) in
     c.emit_free.ensures.ops
     ∙ rw (
       c.emit_commit.ensures.ops g.W.Width.BITS some,

@@ -1,9 +1,9 @@
-use Rattle.std.proofs.Common.{◌≡◌, ℕ, ◌≤◌, ◌+◌, ◌*◌, sym, ◌∙◌, ap, subst, append-nil, append_assoc, arith}
+use Rattle.std.proofs.Common.{◌≡◌, ℕ, ◌≤◌, ◌+◌, ◌*◌, sym, ◌∙◌, ap, append-nil, append_assoc, arith}
 use Rattle.std.proofs.lemmas.Nat.{mul-le}
 use Rattle.cam_chain.specs.declared.counts.Counts.{Counts}
 use Rattle.micro_ir.specs.Measures.{Measured}
 use Rattle.vec_exec.specs.Programs.{LeavesPart, one_half_counts, one_half_length}
-use Rattle.vec_exec.proofs.Written.{half-none, half-more, halves-none, halves-more, measured-none, measured-append, one-more}
+use Rattle.vec_exec.proofs.Written.{half-none, half-more, halves-none, halves-more, measured-none, measured-append, measured-same, one-more}
 use Rattle.vec_exec.proofs.halves.emit_halves.Goals as goal
 
 pub loop-half-init : goal.loop-half-init
@@ -15,7 +15,7 @@ loop-half-init g c =
       ops = rw none (sym (append-nil _));
       spare = omega arith;
       leaves = λ h inside. absurd (omega (arith, inside));
-      cost = rw none (subst (λ (k : Counts). Measured k (0 * one_half_length c.args.recipe c.args.i.now c.args.cfg.now) _) (halves-none counts) (subst (λ (n : ℕ). Measured _ n _) zero_long measured-none));
+      cost = rw none (measured-same _ _ _ _ _ (halves-none counts) zero_long measured-none);
     }
 
 pub emit_half-requires-clause-room : goal.emit_half-requires-clause-room
@@ -30,12 +30,11 @@ pub loop-half-preserved : goal.loop-half-preserved
 loop-half-preserved g c =
     let more = half-more c.args.recipe c.args.i.now c.args.cfg.now c.args.register c.loop-half.half in
     let counts = one_half_counts c.args.recipe c.args.i.now c.args.cfg.now in
-    let long = one_half_length c.args.recipe c.args.i.now c.args.cfg.now in
+    let long : ℕ = one_half_length c.args.recipe c.args.i.now c.args.cfg.now in
     let longer : c.loop-half.half * long + long ≡ (c.loop-half.half + 1) * long = omega arith in
     record {
       ops = c.emit_half.ensures.ops ∙ rw (c.loop-half.invariant.ops, more) (simp append_assoc);
       spare = omega (arith, c.emit_half.ensures.spare, c.loop-half.invariant.spare);
       leaves = one-more (LeavesPart c.args.recipe c.args.i.now c.args.cfg.now c.args.register) c.loop-half.half c.loop-half.invariant.leaves c.emit_half.ensures.leaves;
-      cost = rw more (subst (λ (k : Counts). Measured k ((c.loop-half.half + 1) * long) _) (halves-more c.loop-half.half counts) (subst (λ (n : ℕ). Measured _ n _) longer
-          (measured-append _ _ _ _ _ _ c.loop-half.invariant.cost c.emit_half.ensures.cost)));
+      cost = rw more (measured-same _ _ _ _ _ (halves-more c.loop-half.half counts) longer (measured-append _ _ _ _ _ _ c.loop-half.invariant.cost c.emit_half.ensures.cost));
     }

@@ -12,26 +12,26 @@ emit_raw-requires-clause-room g c =
     let log = log2-is g.D.Width.BITS g.D.Width.LOG g.met.D.Width.power g.met.D.Width.divides g.met.D.Width.least in
     rw log at (rw c.requires.wide at (rw c.in-Halves.is at c.requires.room))
 
-pub returns-in-Halves-clause-ops : goal.returns-in-Halves-clause-ops
+pub returns-clause-ops : goal.returns-clause-ops
 unfolding list_of
-returns-in-Halves-clause-ops g c =
+returns-clause-ops g c =
     let log = log2-is g.D.Width.BITS g.D.Width.LOG g.met.D.Width.power g.met.D.Width.divides g.met.D.Width.least in
     rw (c.in-Halves.is, c.requires.wide, log) c.emit_raw.ensures.ops
 
-pub returns-in-Halves-clause-spare : goal.returns-in-Halves-clause-spare
+pub returns-clause-spare : goal.returns-clause-spare
 unfolding length_of
-returns-in-Halves-clause-spare g c =
+returns-clause-spare g c =
     let log = log2-is g.D.Width.BITS g.D.Width.LOG g.met.D.Width.power g.met.D.Width.divides g.met.D.Width.least in
     rw (c.in-Halves.is, c.requires.wide, log) c.emit_raw.ensures.spare
 
-pub returns-in-Halves-clause-leaves : goal.returns-in-Halves-clause-leaves
+pub returns-clause-leaves : goal.returns-clause-leaves
 unfolding list_of
-returns-in-Halves-clause-leaves g c =
+returns-clause-leaves g c =
     let log = log2-is g.D.Width.BITS g.D.Width.LOG g.met.D.Width.power g.met.D.Width.divides g.met.D.Width.least in
     rw (c.in-Halves.is, c.requires.wide, log) c.emit_raw.ensures.leaves
 
-pub returns-in-Halves-clause-cost : goal.returns-in-Halves-clause-cost
+pub returns-clause-cost : goal.returns-clause-cost
 unfolding list_of counts_of length_of
-returns-in-Halves-clause-cost g c =
+returns-clause-cost g c =
     let log = log2-is g.D.Width.BITS g.D.Width.LOG g.met.D.Width.power g.met.D.Width.divides g.met.D.Width.least in
     rw (c.in-Halves.is, c.requires.wide, log) c.emit_raw.ensures.cost

@@ -5,10 +5,10 @@ use Rattle.vec_exec.proofs.Planned.{plans}
 use Rattle.vec_exec.proofs.Written.{last-width}
 use Rattle.vec_exec.proofs.planning.emit_elements.Goals as goal
 
-pub width-requires-clause-sew : goal.width-requires-clause-sew
-width-requires-clause-sew c =
+pub width-bits-requires : goal.width-bits-requires
+width-bits-requires c =
     let fit = fitted c.args.i.now.op c.args.recipe c.requires.recipe in
-    (plans c.args.recipe fit.operation c.args.i.now c.args.cfg.now c.args.scalar fit.fits c.requires.valid c.requires.legal c.requires.bits c.requires.whole).sew
+    record { sew = (plans c.args.recipe fit.operation c.args.i.now c.args.cfg.now c.args.scalar fit.fits c.requires.valid c.requires.legal c.requires.bits c.requires.whole).sew }
 
 pub emit_element_program-requires-else-bits-eq-HALF_BITS-clause-width : goal.emit_element_program-requires-else-bits-eq-HALF_BITS-clause-width
 emit_element_program-requires-else-bits-eq-HALF_BITS-clause-width c =

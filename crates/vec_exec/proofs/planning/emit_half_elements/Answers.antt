@@ -3,9 +3,6 @@ use Rattle.vec_exec.proofs.Fits.{fitted}
 use Rattle.vec_exec.proofs.Planned.{half-plans}
 use Rattle.vec_exec.proofs.planning.emit_half_elements.Goals as goal
 
-pub emit_half_program-requires-then-cfg-eq-BYTE_BITS-clause-wide : goal.emit_half_program-requires-then-cfg-eq-BYTE_BITS-clause-wide
-emit_half_program-requires-then-cfg-eq-BYTE_BITS-clause-wide c = ap (λ (w : ℕ). 2 * w) c.if-cfg-eq-BYTE_BITS.true
-
 pub emit_half_program-requires-else-cfg-eq-BYTE_BITS-clause-width : goal.emit_half_program-requires-else-cfg-eq-BYTE_BITS-clause-width
 emit_half_program-requires-else-cfg-eq-BYTE_BITS-clause-width c =
     let fit = fitted c.args.i.now.op c.args.recipe c.requires.recipe in

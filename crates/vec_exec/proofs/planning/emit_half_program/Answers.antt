@@ -1,4 +1,4 @@
-use Rattle.std.proofs.Common.{◌≡◌, ℕ, true, false, ◌+◌, ◌*◌, ◌≤◌, ◌<◌, ◌++◌, cond, ◌∙◌, sym, ap, arith, append_assoc}
+use Rattle.std.proofs.Common.{◌≡◌, ℕ, true, false, ◌+◌, ◌*◌, ◌≤◌, ◌<◌, ◌++◌, cond, ◌∙◌, refl, sym, ap, arith}
 use Rattle.vtype_cfg.proofs.Supported.{vlen_bounded}
 use Rattle.legal_groups.specs.Facts.{registers_for, group_count}
 use Rattle.legal_groups.proofs.Widths.{width-least}
@@ -12,19 +12,19 @@ use Rattle.vec_exec.proofs.Planned.{valid-length, half-plans, half-wide, halves-
 use Rattle.vec_exec.proofs.Written.{width-most, flag-few, half-registers-few}
 use Rattle.vec_exec.proofs.planning.emit_half_program.Goals as goal
 
-pub half_scalar_number-requires-clause-narrow : goal.half_scalar_number-requires-clause-narrow
-half_scalar_number-requires-clause-narrow g c =
+pub half_scalar_number-number-requires : goal.half_scalar_number-number-requires
+half_scalar_number-number-requires g c =
     let fit = fitted c.args.i.now.op c.args.recipe c.requires.recipe in
-    (half-plans c.args.recipe fit.operation c.args.i.now c.args.cfg.now c.args.scalar fit.fits c.requires.valid c.requires.legal c.requires.bits c.requires.halves).narrow
+    record { narrow = (half-plans c.args.recipe fit.operation c.args.i.now c.args.cfg.now c.args.scalar fit.fits c.requires.valid c.requires.legal c.requires.bits c.requires.halves).narrow }
 
-pub registers-requires-clause-sew : goal.registers-requires-clause-sew
-registers-requires-clause-sew g c =
+pub registers-count-requires-clause-sew : goal.registers-count-requires-clause-sew
+registers-count-requires-clause-sew g c =
     let fit = fitted c.args.i.now.op c.args.recipe c.requires.recipe in
     let least = width-least c.args.cfg.now.vtype.sew (half-wide (half-plans c.args.recipe fit.operation c.args.i.now c.args.cfg.now c.args.scalar fit.fits c.requires.valid c.requires.legal c.requires.bits c.requires.halves).narrow) in
     omega (arith, least)
 
-pub registers-requires-clause-few : goal.registers-requires-clause-few
-registers-requires-clause-few g c =
+pub registers-count-requires-clause-few : goal.registers-count-requires-clause-few
+registers-count-requires-clause-few g c =
     let fit = fitted c.args.i.now.op c.args.recipe c.requires.recipe in
     (half-plans c.args.recipe fit.operation c.args.i.now c.args.cfg.now c.args.scalar fit.fits c.requires.valid c.requires.legal c.requires.bits c.requires.halves).few
 
@@ -62,7 +62,7 @@ returns-clause-program g c =
     let fit = fitted c.args.i.now.op c.args.recipe c.requires.recipe in
     let count = c.registers-count.ensures in
     c.emit_half_registers.ensures.ops
-    ∙ rw (c.emit_scalar.ensures.ops, c.requires.empty, count, c.half_scalar_number-number.ensures, sym c.requires.wide, halves-program c.args.recipe fit.operation c.args.i.now c.args.cfg.now c.args.scalar fit.fits c.requires.valid c.requires.legal c.requires.bits c.requires.halves) (simp append_assoc)
+    ∙ rw (c.emit_scalar.ensures.ops, c.requires.empty, count, c.half_scalar_number-number.ensures, sym c.requires.wide, halves-program c.args.recipe fit.operation c.args.i.now c.args.cfg.now c.args.scalar fit.fits c.requires.valid c.requires.legal c.requires.bits c.requires.halves) refl
 
 pub returns-clause-realises : goal.returns-clause-realises
 returns-clause-realises g c =

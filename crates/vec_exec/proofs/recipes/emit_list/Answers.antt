@@ -95,7 +95,7 @@ emit_commit-requires-clause-apart g c = let rows : FitsRows c.args.list c.args.a
 pub returns-in-Copies-clause-ops : goal.returns-in-Copies-clause-ops
 unfolding list_of
 returns-in-Copies-clause-ops g c =
-    let some : 0 < g.W.Width.BITS = let least = g.met.W.Width.least in omega arith in
+    let some : 0 < g.W.Width.BITS = omega (arith, g.met.W.Width.least) in
     rw c.in-Copies.is (c.emit_commit.ensures.ops g.W.Width.BITS some)
 
 pub returns-in-Copies-clause-spare : goal.returns-in-Copies-clause-spare
