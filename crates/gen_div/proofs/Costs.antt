@@ -1,11 +1,10 @@
 -- What the lists of divisions cost, how long they are, and that a chain can run them.
-use Rattle.std.proofs.Common.{◌≡◌, ℕ, ◌+◌, ◌-◌, ◌*◌, ◌<◌, ◌≤◌, Bool, true, false, not, List, [], ◌∷◌, ◌++◌, zero, suc, refl, ◌∙◌, ap, arith}
-use Rattle.micro_ir.specs.Measures.{counts, Measured}
+use Rattle.std.proofs.Common.{◌≡◌, ℕ, ◌+◌, ◌-◌, ◌*◌, ◌<◌, ◌≤◌, true, false, not, List, [], ◌∷◌, ◌++◌, zero, suc, refl, arith}
+use Rattle.micro_ir.specs.Measures.{Measured}
 use Rattle.micro_ir.specs.Pieces.{above, clear, commit, downs, broadcast, everywhere}
 use Rattle.micro_ir.specs.Steps.{Step, micros}
 use Rattle.micro_ir.specs.WorkRows.{carry_row, broadcast_row, truth_row, left_row, right_row}
 use Rattle.gen_arith.specs.Recipes.{odd_on, first_on}
-use Rattle.gen_arith.proofs.Costs.{counts-same}
 use Rattle.gen_shift.specs.Rows.{is_odd}
 use Rattle.row_sums.specs.Sums.{total_row, half_role, half_after, total, total_length, ripple_length, shifted_once, doubled}
 use Rattle.row_sums.proofs.Kept.{role-row}

@@ -1,10 +1,10 @@
 -- The laws of the kinds.
-use Rattle.std.proofs.Common.{◌≡◌, ◌≢◌, ℕ, ◌+◌, ◌-◌, ◌^◌, ◌<◌, ◌≤◌, Bool, true, false, not, cond, List, ◌++◌, [], ◌∷◌, refl, sym, ◌∙◌, ap, arith, inl, inr}
+use Rattle.std.proofs.Common.{◌≡◌, ◌≢◌, ℕ, ◌+◌, ◌^◌, ◌<◌, Bool, true, false, not, List, ◌++◌, [], ◌∷◌, refl, sym, ◌∙◌, ap, arith, inl, inr}
 use Rattle.std.proofs.Math.Nat.{mod-eq_of_lt}
 use Rattle.bit_laws.specs.Numbers.{number, low}
 use Rattle.bit_laws.proofs.Numbers.{number-lt}
 use Rattle.micro_ir.specs.Steps.{steps_on}
-use Rattle.micro_ir.specs.WorkRows.{IsOperandRow, scalar_row, broadcast_row}
+use Rattle.micro_ir.specs.WorkRows.{scalar_row, broadcast_row}
 use Rattle.micro_ir.specs.declared.place.Place.{Place}
 use Rattle.micro_ir.proofs.StepLists.{steps_on-append, AllFit-append}
 use Rattle.gen_shift.specs.Rows.{is_odd, is_among}
@@ -18,7 +18,7 @@ use Rattle.gen_div.specs.Rows.{IsSignedRow, IsRowOf}
 use Rattle.gen_div.specs.Lists.{rest_row, dividing, negating, magnitudes, by_sign, quotient_signs, starting, finishing, result_row, division_steps}
 use Rattle.gen_div.specs.Kinds.{quotient, remainder, division_value}
 use Rattle.gen_div.specs.Laws.{RealisesDivision}
-use Rattle.gen_div.proofs.Quotients.{division_works, Halved, division-on, division-only, quotient-is, rest-is}
+use Rattle.gen_div.proofs.Quotients.{division_works, division-on, division-only, quotient-is, rest-is}
 use Rattle.gen_div.proofs.Negatives.{signed_works, works, magnitude, magnitudes-on, magnitudes-only, by_sign-on, by_sign-only, negating-on, negating-only, quotient_negative, signs-on, signs-only}
 use Rattle.gen_div.proofs.Whole.{quotient_of, rest_of, quotient-whole, remainder-whole}
 use Rattle.gen_div.proofs.Fits.{starting-fits, finishing-fits}

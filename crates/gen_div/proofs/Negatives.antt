@@ -1,12 +1,11 @@
 -- Numbers negated by signs, and the sign of the quotient.
-use Rattle.std.proofs.Common.{◌≡◌, ◌≢◌, ℕ, ◌+◌, ◌-◌, ◌*◌, ◌/◌, ◌%◌, ◌^◌, ◌<◌, ◌≤◌, Bool, true, false, cond, not, eqb, ltb, ◌||◌, ◌&&◌, List, [], ◌∷◌, ◌++◌, zero, suc, refl, sym, ◌∙◌, ap, arith, ⊎_elim}
-use mathlib.Core.Bool.{beq}
+use Rattle.std.proofs.Common.{◌≡◌, ◌≢◌, ℕ, ◌+◌, ◌-◌, ◌^◌, ◌<◌, ◌≤◌, Bool, true, false, cond, not, eqb, ◌||◌, ◌&&◌, List, [], ◌∷◌, ◌++◌, zero, suc, refl, sym, ◌∙◌, ap, arith, ⊎_elim}
 use Rattle.std.proofs.Math.Nat.{mod-eq_of_lt}
 use Rattle.std.proofs.lemmas.Bool.{ne_eqb, eq-eqb, cases_lt, lt-ltb, le-ltb}
 use Rattle.std.proofs.lemmas.Nat.{pow_pos}
 use Rattle.bit_laws.specs.Numbers.{number, low}
 use Rattle.bit_laws.proofs.Numbers.{number-lt, number-same}
-use Rattle.micro_ir.specs.Steps.{Step, fires, step_on, steps_on}
+use Rattle.micro_ir.specs.Steps.{fires, step_on, steps_on}
 use Rattle.micro_ir.proofs.StepLists.{steps_on-append}
 use Rattle.micro_ir.proofs.OneElement.{hit, fires-hit, step-row, clear-here, above-here, above-else}
 use Rattle.micro_ir.proofs.Effects.{broadcast-on, downs-here}
@@ -15,7 +14,7 @@ use Rattle.micro_ir.specs.Pieces.{above, clear, downs, broadcast}
 use Rattle.gen_arith.specs.Recipes.{odd_on, most_on}
 use Rattle.gen_shift.specs.Rows.{is_among}
 use Rattle.gen_shift.proofs.Stays.{Within, within-append, within-downs, within-broadcast}
-use Rattle.row_sums.specs.Sums.{total_row, half_after}
+use Rattle.row_sums.specs.Sums.{half_after}
 use Rattle.row_sums.proofs.Kept.{kept, differ, within-more}
 use Rattle.row_sums.proofs.Totals.{made, sum_from-on, sum_from-only}
 use Rattle.row_sums.proofs.Numbers.{sum-low, not-number, number-none, negative, top-negative}

@@ -1,11 +1,11 @@
 -- The quotient and the remainder of two rows without signs.
-use Rattle.std.proofs.Common.{◌≡◌, ◌≢◌, ℕ, ◌+◌, ◌-◌, ◌*◌, ◌/◌, ◌%◌, ◌^◌, ◌<◌, ◌≤◌, Bool, true, false, cond, not, eqb, ◌&&◌, ◌||◌, List, [], ◌∷◌, ◌++◌, zero, suc, refl, sym, ◌∙◌, ap, arith, ◌⊎◌, inl, inr, ⊎_elim}
+use Rattle.std.proofs.Common.{◌≡◌, ◌≢◌, ℕ, ◌+◌, ◌-◌, ◌*◌, ◌/◌, ◌%◌, ◌^◌, ◌<◌, ◌≤◌, Bool, true, false, cond, not, eqb, ◌||◌, List, [], ◌∷◌, ◌++◌, zero, suc, refl, sym, ◌∙◌, ap, arith, ◌⊎◌, ⊎_elim}
 use Rattle.std.proofs.Math.Nat.{pow-suc, pow-le-pow_right}
 use Rattle.std.proofs.lemmas.Bool.{ne_eqb, eq-eqb, cases_eq}
-use Rattle.std.proofs.lemmas.Nat.{mod-mul-add, div-mul-add, pow_pos}
+use Rattle.std.proofs.lemmas.Nat.{mod-mul-add, div-mul-add}
 use Rattle.bit_laws.specs.Numbers.{number}
 use Rattle.bit_laws.proofs.Numbers.{number-same, number-lt}
-use Rattle.micro_ir.specs.Steps.{Step, fires, step_on, steps_on}
+use Rattle.micro_ir.specs.Steps.{fires, step_on, steps_on}
 use Rattle.micro_ir.proofs.StepLists.{steps_on-append}
 use Rattle.micro_ir.proofs.OneElement.{hit, fires-hit, clear-here, step-row, everywhere-here, above-here, above-else}
 use Rattle.micro_ir.proofs.Effects.{above-copy, downs-here}
@@ -19,7 +19,7 @@ use Rattle.row_sums.proofs.Kept.{kept, differ, Halves, off_first, turned, apart,
 use Rattle.row_sums.proofs.Places.{doubled-here, raised-here, Up, up-number, number-low}
 use Rattle.row_sums.proofs.Totals.{total-on, total-only}
 use Rattle.row_sums.proofs.Numbers.{total-difference, number-none}
-use Rattle.gen_div.specs.Kinds.{quotient, remainder}
+use Rattle.gen_div.specs.Kinds.{quotient}
 use Rattle.gen_div.specs.Lists.{moved_row, rest_row, borrow_row, borrow_last_on, fits_on, entering, choosing, division_round, division_rounds, dividing}
 use Rattle.gen_div.proofs.Tables.{borrow_last, odd_last, fits, picks}
 

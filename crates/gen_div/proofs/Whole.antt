@@ -1,9 +1,9 @@
 -- The quotients and the remainders as whole numbers.
-use Rattle.std.proofs.Common.{◌≡◌, ◌≢◌, ℕ, ℤ, pos, negsuc, ◌+◌, ◌-◌, ◌*◌, ◌/◌, ◌%◌, ◌^◌, ◌<◌, ◌≤◌, ◌-ℤ◌, int_div, int_rem, Bool, true, false, cond, not, eqb, ltb, ◌&&◌, zero, suc, refl, sym, ◌∙◌, ap, arith, ⊎_elim}
+use Rattle.std.proofs.Common.{◌≡◌, ◌≢◌, ℕ, pos, negsuc, ◌+◌, ◌-◌, ◌/◌, ◌%◌, ◌^◌, ◌<◌, ◌≤◌, ◌-ℤ◌, int_div, int_rem, Bool, true, false, cond, not, eqb, ◌&&◌, suc, refl, sym, ◌∙◌, ap, arith, ⊎_elim}
 use mathlib.Core.Bool.{beq}
 use Rattle.std.proofs.Math.Nat.{div-le_self, mod-le, mod-eq_of_lt}
 use Rattle.std.proofs.Math.IntN.{neg_ℤ}
-use Rattle.std.proofs.lemmas.Bool.{cases_lt, cases_eq, lt-ltb, le-ltb, ne_eqb, eq-eqb}
+use Rattle.std.proofs.lemmas.Bool.{cases_lt, cases_eq, lt-ltb, le-ltb, ne_eqb}
 use Rattle.std.proofs.lemmas.Int.{ints}
 use Rattle.std.proofs.lemmas.Nat.{pow_pos}
 use Rattle.bit_laws.specs.Numbers.{low}
@@ -12,7 +12,6 @@ use Rattle.gen_shift.specs.Kinds.{low_int}
 use Rattle.gen_shift.proofs.Ints.{int-low}
 use Rattle.row_sums.proofs.Numbers.{negative, low-shift}
 use Rattle.gen_div.specs.Kinds.{signed_quotient_of, signed_remainder}
-use Rattle.gen_div.proofs.Tables.{unlike}
 use Rattle.gen_div.proofs.Negatives.{signed_by, magnitude, quotient_negative}
 
 -- the quotient of the numbers without signs, with its sign, and the remainder with the dividend's

@@ -1,6 +1,6 @@
 -- The lists of divisions, as they are written.
-use Rattle.std.proofs.Common.{◌≡◌, ℕ, ◌+◌, ◌-◌, Bool, true, false, not, List, [], ◌∷◌, ◌++◌, suc, refl, ◌∙◌, ap, arith, append_assoc}
-use Rattle.micro_ir.specs.Steps.{Step, micro, micros}
+use Rattle.std.proofs.Common.{◌≡◌, ℕ, ◌+◌, ◌-◌, true, false, not, [], ◌∷◌, ◌++◌, suc, refl, ◌∙◌, ap, arith, append_assoc}
+use Rattle.micro_ir.specs.Steps.{micro, micros}
 use Rattle.micro_ir.specs.WorkRows.{carry_row, broadcast_row, truth_row, left_row, right_row}
 use Rattle.micro_ir.specs.Pieces.{above, clear, commit, downs, broadcast, everywhere}
 use Rattle.micro_ir.proofs.StepLists.{micros-append, micros-one}

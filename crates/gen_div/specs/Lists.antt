@@ -1,5 +1,5 @@
 -- The lists of divisions. A round takes the dividend's next bit into the remainder, and takes the divisor from it where it fits.
-use Rattle.std.specs.Prelude.{ℕ, zero, suc, ◌+◌, ◌-◌, Bool, true, false, not, List, [], ◌∷◌, ◌++◌}
+use Rattle.std.specs.Prelude.{ℕ, zero, suc, ◌+◌, ◌-◌, true, false, not, List, [], ◌∷◌, ◌++◌}
 use Rattle.micro_ir.specs.Steps.{Step}
 use Rattle.micro_ir.specs.WorkRows.{carry_row, broadcast_row, truth_row, left_row, right_row}
 use Rattle.micro_ir.specs.Pieces.{everywhere, above, clear, commit, downs, broadcast}

@@ -1,6 +1,6 @@
 -- What the lists of products cost, how long they are, and that a chain can run them.
-use Rattle.std.proofs.Common.{◌≡◌, ℕ, ◌+◌, ◌-◌, ◌*◌, ◌<◌, ◌≤◌, true, false, not, List, [], ◌∷◌, ◌++◌, zero, suc, refl, ◌∙◌, ap, arith}
-use Rattle.micro_ir.specs.Measures.{counts, Measured}
+use Rattle.std.proofs.Common.{◌≡◌, ℕ, ◌+◌, ◌-◌, ◌*◌, ◌<◌, ◌≤◌, false, not, List, [], ◌∷◌, ◌++◌, zero, suc, refl, arith}
+use Rattle.micro_ir.specs.Measures.{Measured}
 use Rattle.micro_ir.specs.Pieces.{above, clear, commit, broadcast}
 use Rattle.micro_ir.specs.Steps.{Step, micros}
 use Rattle.micro_ir.specs.WorkRows.{carry_row, truth_row}
@@ -8,11 +8,11 @@ use Rattle.gen_arith.specs.Recipes.{odd_on, most_on, odd_not_on, borrow_on}
 use Rattle.gen_shift.specs.Rows.{is_odd}
 use Rattle.row_sums.specs.Sums.{total_row, half_role, half_after, sum_from, total, halved, total_length, ripple_length}
 use Rattle.row_sums.proofs.Kept.{role-row}
-use Rattle.row_sums.proofs.Costs.{Sized, sized-append, sized-as, measured, none-sized, clear-sized, commit-sized, broadcast-sized, total-sized, sum_from-sized, halved-sized, halved-far}
+use Rattle.row_sums.proofs.Costs.{Sized, sized-append, sized-as, measured, none-sized, commit-sized, broadcast-sized, total-sized, sum_from-sized, halved-sized, halved-far}
 use Rattle.gen_mul.specs.declared.kinds.Product.{Product}
 use Rattle.gen_mul.specs.declared.kinds.Product.TheVariants.{Mul, Mulhu, Mulhsu, Mulh, Macc, Nmsac}
 use Rattle.gen_mul.specs.Lists.{high_row, corrected_row, gated, gated_sum_on, gated_carry_on, gated_borrow_on, product_round, product_rounds, multiplying, correcting, adding, taking, finishing, result_row, product_steps}
-use Rattle.gen_mul.specs.Kinds.{product_counts, product_length, round_length, multiplying_length, correcting_length, adding_length, taking_length, finishing_length}
+use Rattle.gen_mul.specs.Kinds.{product_counts, product_length, multiplying_length, correcting_length, adding_length, taking_length, finishing_length}
 
 -- ---- lengths of the parts
 

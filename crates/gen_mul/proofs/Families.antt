@@ -1,9 +1,8 @@
 -- The laws of the kinds.
-use Rattle.std.proofs.Common.{◌≡◌, ℕ, ◌+◌, ◌-◌, ◌*◌, ◌/◌, ◌%◌, ◌^◌, ◌<◌, ◌≤◌, Bool, true, false, ◌++◌, refl, sym, ◌∙◌, ap, arith}
+use Rattle.std.proofs.Common.{◌≡◌, ℕ, ◌^◌, ◌<◌, Bool, true, false, ◌++◌, refl, sym, ◌∙◌, ap, arith}
 use Rattle.std.proofs.Math.Nat.{mod-eq_of_lt}
 use Rattle.std.proofs.lemmas.Nat.{mod-mul-add}
 use Rattle.bit_laws.specs.Numbers.{number, low}
-use Rattle.bit_laws.specs.Signed.{signed}
 use Rattle.bit_laws.proofs.Numbers.{number-lt}
 use Rattle.micro_ir.specs.Steps.{steps_on}
 use Rattle.micro_ir.specs.WorkRows.{IsOperandRow, scalar_row}
@@ -17,7 +16,7 @@ use Rattle.row_sums.proofs.Kept.{operand-off, role-past}
 use Rattle.row_sums.proofs.Fits.{work-realises}
 use Rattle.gen_mul.specs.declared.kinds.Product.{Product}
 use Rattle.gen_mul.specs.declared.kinds.Product.TheVariants.{Mul, Mulhu, Mulhsu, Mulh, Macc, Nmsac}
-use Rattle.gen_mul.specs.Lists.{high_row, corrected_row, multiplying, correcting, adding, taking, finishing, result_row, adds, product_steps}
+use Rattle.gen_mul.specs.Lists.{high_row, corrected_row, multiplying, correcting, finishing, result_row, adds, product_steps}
 use Rattle.gen_mul.specs.Kinds.{product_value}
 use Rattle.gen_mul.specs.Laws.{RealisesProduct}
 use Rattle.gen_mul.proofs.Products.{product_works, product-halves, product-only}

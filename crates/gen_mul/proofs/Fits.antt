@@ -1,7 +1,6 @@
 -- No step of a product leaves its element.
-use Rattle.std.proofs.Common.{◌≡◌, ℕ, ◌+◌, ◌-◌, ◌<◌, ◌≤◌, true, false, not, [], ◌∷◌, ◌++◌, zero, suc, refl, arith}
-use Rattle.micro_ir.specs.Folding.{has_whole}
-use Rattle.micro_ir.specs.Pieces.{clear, broadcast}
+use Rattle.std.proofs.Common.{ℕ, ◌-◌, ◌<◌, ◌≤◌, false, not, [], ◌∷◌, ◌++◌, zero, suc, refl, arith}
+use Rattle.micro_ir.specs.Pieces.{broadcast}
 use Rattle.micro_ir.specs.Steps.{AllFit}
 use Rattle.micro_ir.specs.WorkRows.{carry_row, truth_row}
 use Rattle.micro_ir.proofs.Effects.{broadcast-fits}

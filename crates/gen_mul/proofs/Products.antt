@@ -1,20 +1,20 @@
 -- The product of two rows without a sign.
-use Rattle.std.proofs.Common.{◌≡◌, ◌≢◌, ℕ, ◌+◌, ◌-◌, ◌*◌, ◌^◌, ◌<◌, ◌≤◌, Bool, true, false, cond, not, ◌&&◌, ◌||◌, List, [], ◌∷◌, ◌++◌, zero, suc, refl, sym, ◌∙◌, ap, arith, ◌⊎◌, inl, inr, ⊎_elim}
+use Rattle.std.proofs.Common.{◌≡◌, ◌≢◌, ℕ, ◌+◌, ◌-◌, ◌*◌, ◌^◌, ◌<◌, ◌≤◌, Bool, true, false, cond, not, ◌&&◌, List, [], ◌∷◌, ◌++◌, zero, suc, refl, sym, ◌∙◌, ap, arith, ⊎_elim}
 use Rattle.std.proofs.Math.Nat.{pow-suc}
 use Rattle.std.proofs.lemmas.Bool.{ne_eqb, lt-ltb}
 use Rattle.bit_laws.specs.Numbers.{number}
 use Rattle.bit_laws.proofs.Numbers.{number-same}
-use Rattle.micro_ir.specs.Steps.{Step, step_on, steps_on}
+use Rattle.micro_ir.specs.Steps.{step_on, steps_on}
 use Rattle.micro_ir.proofs.StepLists.{steps_on-append}
 use Rattle.micro_ir.proofs.Effects.{broadcast-on}
 use Rattle.micro_ir.proofs.OneElement.{clear-here, step-row}
-use Rattle.micro_ir.specs.WorkRows.{carry_row, broadcast_row, truth_row}
+use Rattle.micro_ir.specs.WorkRows.{broadcast_row, truth_row}
 use Rattle.micro_ir.specs.Pieces.{clear, broadcast}
 use Rattle.gen_arith.specs.Recipes.{odd_on, most_on}
 use Rattle.gen_shift.specs.Rows.{is_odd, is_among}
 use Rattle.gen_shift.proofs.Stays.{Within, within-append, within-broadcast}
 use Rattle.row_sums.specs.Sums.{total_row, half_role, half_after, halved, total}
-use Rattle.row_sums.proofs.Kept.{kept, differ, Halves, off_first, on_first, turned, apart, halves, half-next}
+use Rattle.row_sums.proofs.Kept.{kept, differ, Halves, off_first, turned, apart, halves, half-next}
 use Rattle.row_sums.proofs.Places.{halved-here, down-number, Down}
 use Rattle.row_sums.proofs.Totals.{total-on, total-only}
 use Rattle.row_sums.proofs.Numbers.{total-sum, gated-number, number-none}

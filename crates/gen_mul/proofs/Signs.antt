@@ -1,18 +1,17 @@
 -- Corrections of the high half of a product by signs, and its low half beside an addend.
-use Rattle.std.proofs.Common.{◌≡◌, ◌≢◌, ℕ, ◌+◌, ◌-◌, ◌*◌, ◌/◌, ◌%◌, ◌^◌, ◌<◌, ◌≤◌, Bool, true, false, cond, not, eqb, ltb, ◌||◌, ◌&&◌, List, [], ◌∷◌, ◌++◌, zero, suc, refl, sym, ◌∙◌, ap, arith, ⊎_elim}
+use Rattle.std.proofs.Common.{◌≡◌, ℕ, ◌+◌, ◌-◌, ◌*◌, ◌/◌, ◌^◌, ◌<◌, Bool, true, false, cond, not, eqb, ◌||◌, ◌&&◌, List, [], ◌∷◌, refl, sym, ◌∙◌, ap, arith}
 use Rattle.std.proofs.Math.Nat.{mul-add-mod_self_right}
 use Rattle.std.proofs.lemmas.Bool.{ne_eqb, lt-ltb}
 use Rattle.std.proofs.lemmas.Nat.{mod-mul-add, div-mul-add}
 use Rattle.bit_laws.specs.Numbers.{number, low}
 use Rattle.bit_laws.proofs.Numbers.{number-lt}
-use Rattle.micro_ir.specs.Steps.{Step, fires, steps_on}
+use Rattle.micro_ir.specs.Steps.{steps_on}
 use Rattle.micro_ir.proofs.StepLists.{steps_on-append}
 use Rattle.micro_ir.proofs.Effects.{broadcast-on}
-use Rattle.micro_ir.proofs.OneElement.{hit, fires-hit}
+use Rattle.micro_ir.proofs.OneElement.{fires-hit}
 use Rattle.micro_ir.specs.WorkRows.{carry_row, broadcast_row}
 use Rattle.micro_ir.specs.Pieces.{broadcast}
 use Rattle.gen_arith.specs.Recipes.{odd_on, most_on, odd_not_on, borrow_on}
-use Rattle.gen_arith.proofs.Rows.{finds}
 use Rattle.gen_shift.specs.Rows.{is_odd, is_among}
 use Rattle.gen_shift.proofs.Stays.{Within, within-append, within-broadcast}
 use Rattle.row_sums.specs.Sums.{total_row, half_role, half_after, sum_from}
@@ -21,7 +20,7 @@ use Rattle.row_sums.proofs.Totals.{sum_from-on, sum_from-only}
 use Rattle.row_sums.proofs.Numbers.{sum-low, difference-low, gated-number, not-number, negative, top-negative}
 use Rattle.gen_mul.specs.declared.kinds.Product.{Product}
 use Rattle.gen_mul.specs.declared.kinds.Product.TheVariants.{Mul, Mulhu, Mulhsu, Mulh, Macc, Nmsac}
-use Rattle.gen_mul.specs.Lists.{high_row, corrected_row, gated, gated_sum_on, gated_borrow_on, multiplying, correcting, both_corrections, adding, taking, finishing}
+use Rattle.gen_mul.specs.Lists.{high_row, corrected_row, gated, gated_sum_on, gated_borrow_on, multiplying, correcting, adding, taking, finishing}
 use Rattle.gen_mul.proofs.Tables.{gated-reads, gated_sum, gated_borrow, odd_inverted, most_inverted}
 use Rattle.gen_mul.proofs.Products.{product_works, product-halves, product-only}
 

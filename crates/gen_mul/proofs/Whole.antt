@@ -1,14 +1,13 @@
 -- The high halves as whole numbers.
-use Rattle.std.proofs.Common.{◌≡◌, ℕ, ℤ, pos, negsuc, ◌+◌, ◌-◌, ◌*◌, ◌/◌, ◌%◌, ◌^◌, ◌<◌, ◌≤◌, ◌-ℤ◌, ◌+ℤ◌, ◌*ℤ◌, Bool, true, false, cond, not, ltb, zero, suc, refl, sym, ◌∙◌, ap, arith, ⊎_elim}
+use Rattle.std.proofs.Common.{◌≡◌, ℕ, pos, negsuc, ◌+◌, ◌-◌, ◌*◌, ◌/◌, ◌%◌, ◌^◌, ◌<◌, ◌≤◌, ◌-ℤ◌, ◌*ℤ◌, cond, suc, refl, sym, ◌∙◌, ap, arith, ⊎_elim}
 use Rattle.std.specs.Int.{int_div_euclid}
-use Rattle.std.proofs.Math.Nat.{mul-add-mod_self_right, add-mul-div_right, mod-eq_of_lt, mod-add-div', mod-lt, add-mul-mod_self_right}
+use Rattle.std.proofs.Math.Nat.{mul-add-mod_self_right, add-mul-div_right, mod-add-div', mod-lt, add-mul-mod_self_right}
 use Rattle.std.proofs.Math.IntN.{negsuc-*ℤ-pos, *ℤ_comm}
 use Rattle.std.proofs.lemmas.Bool.{cases_lt, lt-ltb, le-ltb}
 use Rattle.std.proofs.lemmas.Int.{ints}
 use Rattle.std.proofs.lemmas.Nat.{div-mul-add, pow_pos}
 use Rattle.bit_laws.specs.Numbers.{low}
 use Rattle.bit_laws.specs.Signed.{signed}
-use Rattle.gen_shift.specs.Kinds.{low_int}
 use Rattle.row_sums.proofs.Numbers.{negative, low-shift}
 use Rattle.gen_mul.specs.Kinds.{high_part}
 use Rattle.gen_mul.proofs.Signs.{high_first, high_both}

@@ -1,5 +1,5 @@
 -- The lists of products, as they are written.
-use Rattle.std.proofs.Common.{◌≡◌, ℕ, ◌+◌, ◌-◌, false, not, List, [], ◌∷◌, ◌++◌, suc, refl, ◌∙◌, ap, arith, append_assoc}
+use Rattle.std.proofs.Common.{◌≡◌, ℕ, ◌+◌, ◌-◌, false, not, [], ◌∷◌, ◌++◌, suc, refl, ◌∙◌, ap, arith, append_assoc}
 use Rattle.micro_ir.specs.Steps.{micro, micros}
 use Rattle.micro_ir.specs.WorkRows.{carry_row, truth_row}
 use Rattle.micro_ir.specs.Pieces.{above, clear, commit, broadcast}

@@ -1,6 +1,6 @@
 -- The lists of products. Round j of a product without a sign adds the first row to the high half where bit j of the second is
 -- 1, and moves both halves down by one place.
-use Rattle.std.specs.Prelude.{ℕ, zero, suc, ◌+◌, ◌-◌, Bool, true, false, not, List, [], ◌∷◌, ◌++◌}
+use Rattle.std.specs.Prelude.{ℕ, zero, suc, ◌-◌, Bool, true, false, not, List, [], ◌∷◌, ◌++◌}
 use Rattle.micro_ir.specs.Steps.{Step}
 use Rattle.micro_ir.specs.WorkRows.{carry_row, broadcast_row, truth_row}
 use Rattle.micro_ir.specs.Pieces.{clear, commit, broadcast}

@@ -1,6 +1,6 @@
 -- What the parts cost, how long they are, and that a chain can run them.
-use Rattle.std.proofs.Common.{◌≡◌, ℕ, ◌+◌, ◌-◌, ◌*◌, ◌<◌, ◌≤◌, Bool, true, false, cond, ltb, List, [], ◌∷◌, ◌++◌, length, zero, suc, refl, sym, ◌∙◌, ap, arith, ⊎_elim}
-use Rattle.std.proofs.lemmas.Bool.{cases_lt, lt-ltb, le-ltb}
+use Rattle.std.proofs.Common.{◌≡◌, ℕ, ◌+◌, ◌-◌, ◌*◌, ◌<◌, ◌≤◌, Bool, true, false, cond, ltb, List, [], ◌∷◌, ◌++◌, length, zero, suc, refl, sym, ◌∙◌, arith}
+use Rattle.std.proofs.lemmas.Bool.{lt-ltb, le-ltb}
 use Rattle.micro_ir.specs.Measures.{counts, Measured}
 use Rattle.micro_ir.specs.Pieces.{above, below, clear, commit, ups, downs, broadcast}
 use Rattle.micro_ir.specs.Steps.{Step, micros}
@@ -9,7 +9,6 @@ use Rattle.micro_ir.proofs.Effects.{downs-counts, broadcast-tally, broadcast-len
 use Rattle.micro_ir.proofs.StepLists.{RowsFit, RowsFit-append, pass_length, steps_counts, steps_counts-append, tally-micros, steps_length, steps_length-append, length-micros, AllInRange-micros}
 use Rattle.gen_arith.specs.Recipes.{digit, ripple}
 use Rattle.gen_arith.proofs.Costs.{counts-same, counts-add, whole-counts}
-use Rattle.gen_shift.specs.Lists.{slide}
 use Rattle.row_sums.specs.Sums.{ripple_length, total, total_length, sum_from, shifted_once, halved, doubled}
 
 -- the searches, updates and passes of a list of steps, its operations, and that its rows are a subarray's

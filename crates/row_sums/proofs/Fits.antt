@@ -1,20 +1,20 @@
 -- The parts fit their element, and lists that leave a value in a row of work realise it.
-use Rattle.std.proofs.Common.{◌≡◌, ◌≢◌, ℕ, ◌+◌, ◌-◌, ◌<◌, ◌≤◌, Bool, true, false, cond, length, List, [], ◌∷◌, ◌++◌, zero, suc, refl, ◌∙◌, arith, inl, inr}
+use Rattle.std.proofs.Common.{◌≡◌, ℕ, ◌+◌, ◌-◌, ◌<◌, Bool, true, false, length, List, [], ◌∷◌, ◌++◌, zero, suc, refl, arith, inl, inr}
 use Rattle.std.specs.Prelude.{IsTrue}
 use Rattle.std.proofs.lemmas.Bool.{lt-ltb}
 use Rattle.bit_laws.specs.Numbers.{number, low}
 use Rattle.micro_ir.specs.Folding.{has_whole, are_rows}
 use Rattle.micro_ir.specs.Kinds.{Realises}
-use Rattle.micro_ir.specs.Pieces.{above, below, clear, commit}
-use Rattle.micro_ir.specs.Steps.{Step, pass_of, steps_on, Fits, AllFit, micros}
-use Rattle.micro_ir.specs.WorkRows.{carry_row, active_row, scalar_row}
+use Rattle.micro_ir.specs.Pieces.{above, below, commit}
+use Rattle.micro_ir.specs.Steps.{Step, pass_of, steps_on, AllFit, micros}
+use Rattle.micro_ir.specs.WorkRows.{carry_row, scalar_row}
 use Rattle.micro_ir.proofs.Committed.{commit-writes, lifted}
 use Rattle.micro_ir.proofs.Folds.{copy-whole}
 use Rattle.micro_ir.proofs.OneElement.{clear-fits, above-fits, below-fits, ranged-fits, commit-fits}
 use Rattle.micro_ir.proofs.StepLists.{steps_on-append, AllFit-append}
 use Rattle.gen_arith.specs.Recipes.{ripple}
 use Rattle.gen_arith.proofs.Ripple.{ripple-fits}
-use Rattle.gen_shift.specs.Lists.{move_range, slide}
+use Rattle.gen_shift.specs.Lists.{move_range}
 use Rattle.gen_shift.proofs.Fits.{move-stays}
 use Rattle.gen_shift.proofs.Stays.{Within}
 use Rattle.row_sums.specs.Sums.{total, sum_from, shifted_once, halved, doubled}

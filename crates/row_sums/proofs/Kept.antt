@@ -1,6 +1,6 @@
 -- The rows that lists of steps write, and the rows of operands.
-use Rattle.std.proofs.Common.{◌≡◌, ◌≢◌, ℕ, ◌+◌, ◌<◌, ◌≤◌, Bool, true, false, not, ◌||◌, ◌&&◌, ltb, eqb, List, [], ◌∷◌, ◌++◌, zero, suc, refl, sym, ap, ◌∙◌, arith, inl, inr, ◌⊎◌, ⊎_elim}
-use Rattle.std.proofs.lemmas.Bool.{lt-ltb, ne_eqb, ltb-true, and_parts}
+use Rattle.std.proofs.Common.{◌≡◌, ◌≢◌, ℕ, ◌<◌, ◌≤◌, Bool, true, false, not, ◌||◌, ◌&&◌, ltb, eqb, List, [], ◌∷◌, ◌++◌, suc, refl, ap, arith, inl, inr, ◌⊎◌, ⊎_elim}
+use Rattle.std.proofs.lemmas.Bool.{ne_eqb, ltb-true, and_parts}
 use Rattle.micro_ir.specs.Steps.{Step, steps_on}
 use Rattle.micro_ir.specs.WorkRows.{IsOperandRow, scalar_row, left_row, right_row}
 use Rattle.gen_shift.specs.Rows.{is_odd, is_among}

@@ -1,4 +1,4 @@
-use Rattle.std.proofs.Common.{◌≡◌, ℕ, ◌<◌, ◌≤◌, ◌++◌, ◌∙◌, append_assoc, arith}
+use Rattle.std.proofs.Common.{◌≡◌, ℕ, ◌<◌, ◌++◌, ◌∙◌, append_assoc, arith}
 use Rattle.micro_ir.specs.Steps.{micros}
 use Rattle.micro_ir.specs.Pieces.{commit}
 use Rattle.gen_shift.proofs.Families.{width-most}

@@ -1,4 +1,4 @@
-use Rattle.std.proofs.Common.{◌≡◌, ℕ, ◌+◌, ◌-◌, ◌*◌, ◌<◌, ◌≤◌, [], ◌∷◌, refl, sym, append-nil, arith}
+use Rattle.std.proofs.Common.{ℕ, ◌<◌, [], ◌∷◌, refl, sym, append-nil, arith}
 use Rattle.std.specs.Prelude.{IsTrue}
 use Rattle.std.proofs.lemmas.Bool.{lt-ltb}
 use Rattle.micro_ir.specs.Folding.{are_rows}

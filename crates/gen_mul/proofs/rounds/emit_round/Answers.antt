@@ -1,4 +1,4 @@
-use Rattle.std.proofs.Common.{◌≡◌, ℕ, not, ◌+◌, ◌-◌, ◌<◌, ◌++◌, ◌∙◌, append_assoc, arith, true, refl}
+use Rattle.std.proofs.Common.{◌≡◌, ℕ, not, ◌-◌, ◌++◌, ◌∙◌, append_assoc, arith, true, refl}
 use Rattle.micro_ir.specs.Steps.{micros}
 use Rattle.micro_ir.specs.WorkRows.{truth_row}
 use Rattle.micro_ir.specs.Pieces.{broadcast}

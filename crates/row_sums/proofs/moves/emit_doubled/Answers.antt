@@ -1,4 +1,4 @@
-use Rattle.std.proofs.Common.{false, ◌∙◌, ◌<◌, ◌-◌, append_assoc, arith}
+use Rattle.std.proofs.Common.{false, ◌∙◌, ◌-◌, append_assoc, arith}
 use Rattle.row_sums.proofs.Fits.{one-row, one-pass}
 use Rattle.row_sums.proofs.Written.{doubled-list}
 use Rattle.row_sums.proofs.moves.emit_doubled.Goals as goal
