@@ -1,7 +1,6 @@
 -- A copy of what is laid out: its row is committed.
-use Rattle.std.proofs.Common.{◌≡◌, ◌≢◌, ℕ, ◌<◌, true, false, refl, sym, arith}
+use Rattle.std.proofs.Common.{◌≢◌, ℕ, ◌<◌, false, refl, sym, arith}
 use Rattle.std.proofs.Math.Nat.{mod-eq_of_lt}
-use Rattle.bit_laws.specs.Numbers.{number}
 use Rattle.bit_laws.proofs.Numbers.{number-lt}
 use Rattle.micro_ir.specs.Kinds.{Realises}
 use Rattle.micro_ir.specs.Measures.{counts, Measured}

@@ -19,7 +19,7 @@ use Rattle.frame_meaning.specs.Shapes.{has_scalar}
 use Rattle.micro_ir.specs.Pieces.{commit}
 use Rattle.micro_ir.specs.Steps.{micros}
 use Rattle.vec_exec.specs.Recipes.{list_of}
-use Rattle.vec_exec.specs.Programs.{reads, masked, list_for, width_of, operands_of, halves_of, scalar_list, window_list, fill_list, free_bits, mask_fill_list, kind_list, truth_list, wide_list, wide_lists, body_list, half_list_of, first_in, register_list, registers_list, mask_register_list, mask_registers_list, half_register_list, half_registers_list, element_program, mask_program, half_program}
+use Rattle.vec_exec.specs.Programs.{reads, masked, list_for, width_of, operands_of, halves_of, scalar_list, window_list, fill_list, free_bits, mask_fill_list, kind_list, truth_list, wide_lists, body_list, half_list_of, first_in, register_list, registers_list, mask_register_list, mask_registers_list, half_register_list, half_registers_list, element_program, mask_program, half_program}
 
 -- a list that is there, or not
 cond-keep : (b : Bool) (ops : List MicroOp) → all_keep_control ops ≡ true → all_keep_control (cond b ops []) ≡ true

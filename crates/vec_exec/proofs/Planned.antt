@@ -1,7 +1,7 @@
 -- What a plan writes is the program in the frame; what legality says of its rows; and what the program does and costs.
-use Rattle.std.proofs.Common.{◌≡◌, inl, inr, ℕ, zero, suc, ◌+◌, ◌*◌, ◌/◌, ◌<◌, ◌≤◌, Bool, true, false, ◌&&◌, not, cond, eqb, nat_lt, List, ◌++◌, Option, Some, None, refl, sym, ◌∙◌, ap, subst, arith, ◌⊎◌, ⊎_elim}
-use Rattle.std.specs.Prelude.{IsTrue, is_some}
-use Rattle.std.proofs.lemmas.Bool.{and_parts, leb-true, cases_Bool, ne_eqb, false≢true}
+use Rattle.std.proofs.Common.{◌≡◌, inl, inr, ℕ, zero, suc, ◌+◌, ◌*◌, ◌/◌, ◌<◌, ◌≤◌, Bool, true, false, ◌&&◌, not, cond, eqb, nat_lt, List, ◌++◌, Some, refl, sym, ◌∙◌, ap, subst, arith, ◌⊎◌}
+use Rattle.std.specs.Prelude.{IsTrue}
+use Rattle.std.proofs.lemmas.Bool.{and_parts, leb-true, ne_eqb, false≢true}
 use Rattle.bit_rows.specs.Slices.{Slices, blank}
 use Rattle.cam_chain.specs.Views.{registers_of}
 use Rattle.gen_div.specs.Rows.{IsSignedRow}
@@ -9,9 +9,9 @@ use Rattle.gen_div.specs.declared.kinds.Division.TheVariants.{Divu, Remu, Div, R
 use Rattle.gen_shift.specs.Laws.{LeavesValue}
 use Rattle.gen_shift.specs.Rows.{is_among, shift_rows, shifted_row}
 use Rattle.micro_ir.specs.declared.op.MicroOp.{MicroOp}
-use Rattle.micro_ir.specs.Kinds.{Realises, Tells}
+use Rattle.micro_ir.specs.Kinds.{Realises}
 use Rattle.micro_ir.specs.Measures.{Measured}
-use Rattle.micro_ir.specs.Replay.{replay, tally, clips, all_keep_control, AllInRange}
+use Rattle.micro_ir.specs.Replay.{replay, tally, all_keep_control, AllInRange}
 use Rattle.micro_ir.specs.WorkRows.{IsOperandRow, result_row, left_row, right_row, scalar_row}
 use Rattle.micro_ir.proofs.Lists.{clips-none}
 use Rattle.micro_ir.proofs.Valued.{realises-same, tells-same}
@@ -31,7 +31,6 @@ use Rattle.legal_groups.proofs.Groups.{legal_compare_law}
 use Rattle.legal_groups.proofs.Laws.{legal_group_law}
 use Rattle.rvv_meaning.specs.Elementwise.{Elementwise, registers_after, clips_below, clips as clips_elements}
 use Rattle.rvv_meaning.specs.Operations.{Operation, operation_for, on_elements, elements_at, reads_mask, log2}
-use Rattle.rvv_meaning.specs.Vectors.{left_of}
 use Rattle.frame_laws.specs.Classes.Operands.{narrow, row_of, IsReadable}
 use Rattle.frame_laws.specs.Classes.Plain.{Operands, Value, with_operands, IsPlain, AllCompute}
 use Rattle.frame_laws.specs.Classes.Halved.{AllLeave}
@@ -54,7 +53,7 @@ use Rattle.vec_exec.specs.declared.recipes.Listed.{Listed}
 use Rattle.vec_exec.specs.declared.recipes.Listed.TheVariants.{Bits, Sums, Truths, Choices, Shifts, Products, Divisions, Copies, Halves}
 use Rattle.vec_exec.specs.declared.recipes.Recipe.{Recipe}
 use Rattle.vec_exec.specs.Recipes.{recipe_for, makes_bits, makes_halves, takes_row, takes_laid, uses_wide_rows, FitsRows, value_of, truth_of, list_of, counts_of, length_of, Computes}
-use Rattle.vec_exec.specs.Programs.{reads, masked, list_for, width_of, count_of, kind_list, truth_list, wide_list, wide_lists, body_counts, body_length, half_counts, half_length, element_program, mask_program, half_program, register_list, registers_list, mask_register_list, mask_registers_list, half_register_list, half_registers_list, mask_fill_list, scalar_list, IsLayable, IsPlaced, IsMaskPlaced, IsHalfPlaced, IsMade, IsMaskMade, IsHalfMade, RealisesInstruction, prog, program_by, cost, cost_by}
+use Rattle.vec_exec.specs.Programs.{reads, list_for, width_of, count_of, kind_list, truth_list, wide_lists, body_counts, body_length, half_counts, half_length, element_program, mask_program, half_program, register_list, registers_list, mask_register_list, mask_registers_list, half_register_list, half_registers_list, mask_fill_list, scalar_list, IsLayable, IsPlaced, IsMaskPlaced, IsHalfPlaced, IsMade, IsMaskMade, IsHalfMade, RealisesInstruction, prog, program_by, cost, cost_by}
 use Rattle.vec_exec.proofs.Keeping.{elements-keep, mask-keep, halves-keep-program}
 use Rattle.vec_exec.proofs.Fits.{Traits, takes_one_laid, has_wide_rows, Means, Unmasked, Fits}
 

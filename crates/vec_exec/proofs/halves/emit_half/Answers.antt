@@ -1,10 +1,4 @@
-use Rattle.std.proofs.Common.{◌≡◌, ℕ, ◌+◌, ◌*◌, ◌<◌, ◌≤◌, ◌++◌, List, [], ◌∷◌, inl, refl, sym, ◌∙◌, ap, arith, append_assoc}
-use Rattle.cam_chain.specs.declared.counts.Counts.{Counts}
-use Rattle.frame_laws.specs.Classes.Halved.{halves_row}
-use Rattle.micro_ir.specs.Measures.{Measured}
-use Rattle.micro_ir.specs.declared.op.MicroOp.{MicroOp}
-use Rattle.micro_ir.specs.declared.op.MicroOp.TheVariants.{Narrow}
-use Rattle.vec_exec.specs.Programs.{wide_list, halves_of}
+use Rattle.std.proofs.Common.{◌*◌, inl, refl, sym, ◌∙◌, arith, append_assoc}
 use Rattle.vec_exec.proofs.Widths.{log2-is}
 use Rattle.gen_shift.specs.Rows.{shifted_row}
 use Rattle.micro_ir.proofs.Lists.{counts_and-none}

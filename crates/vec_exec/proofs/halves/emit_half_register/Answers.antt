@@ -1,5 +1,5 @@
-use Rattle.std.proofs.Common.{◌≡◌, ℕ, ◌+◌, ◌*◌, ◌<◌, ◌≤◌, ◌++◌, sym, ◌∙◌, arith, append_assoc}
-use Rattle.vec_exec.specs.Programs.{window_list, half_register_list}
+use Rattle.std.proofs.Common.{◌+◌, ◌<◌, ◌∙◌, arith, append_assoc}
+use Rattle.vec_exec.specs.Programs.{half_register_list}
 use Rattle.vec_exec.proofs.Copied.{copied-measured}
 use Rattle.vec_exec.proofs.Written.{measured-append}
 use Rattle.vec_exec.proofs.halves.emit_half_register.Goals as goal

@@ -1,7 +1,5 @@
-use Rattle.std.proofs.Common.{◌≡◌, ℕ, ◌≤◌, ◌+◌, ◌*◌, sym, ◌∙◌, ap, append-nil, append_assoc, arith}
+use Rattle.std.proofs.Common.{◌≡◌, ℕ, ◌≤◌, ◌+◌, ◌*◌, sym, ◌∙◌, append-nil, append_assoc, arith}
 use Rattle.std.proofs.lemmas.Nat.{mul-le}
-use Rattle.cam_chain.specs.declared.counts.Counts.{Counts}
-use Rattle.micro_ir.specs.Measures.{Measured}
 use Rattle.vec_exec.specs.Programs.{LeavesPart, one_half_counts, one_half_length}
 use Rattle.vec_exec.proofs.Written.{half-none, half-more, halves-none, halves-more, measured-none, measured-append, measured-same, one-more}
 use Rattle.vec_exec.proofs.halves.emit_halves.Goals as goal

@@ -1,7 +1,3 @@
-use Rattle.std.proofs.Common.{◌≡◌, Bool, true, false, refl, sym, ◌∙◌}
-use Rattle.std.proofs.lemmas.Bool.{false≢true}
-use Rattle.vec_exec.specs.declared.recipes.Listed.{Listed}
-use Rattle.vec_exec.specs.declared.recipes.Listed.TheVariants.{Bits, Sums, Truths, Choices, Shifts, Copies, Halves}
 use Rattle.vec_exec.specs.Recipes.{list_of, counts_of, length_of}
 use Rattle.vec_exec.proofs.Widths.{log2-is}
 use Rattle.vec_exec.proofs.halves.emit_wide.Goals as goal

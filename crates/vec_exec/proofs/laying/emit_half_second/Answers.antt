@@ -1,4 +1,4 @@
-use Rattle.std.proofs.Common.{◌≡◌, ℕ, ◌+◌, ◌++◌, sym, ◌∙◌, append-nil, arith}
+use Rattle.std.proofs.Common.{sym, append-nil, arith}
 use Rattle.vec_exec.proofs.Written.{unlaid-half}
 use Rattle.vec_exec.proofs.laying.emit_half_second.Goals as goal
 

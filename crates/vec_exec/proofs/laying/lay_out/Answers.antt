@@ -1,4 +1,3 @@
-use Rattle.std.proofs.Common.{◌≡◌, ℕ, true, false, sym}
 use Rattle.vec_exec.proofs.Written.{width-built, measured-spread, measured-signed}
 use Rattle.vec_exec.proofs.laying.lay_out.Goals as goal
 

@@ -1,11 +1,9 @@
-use Rattle.std.proofs.Common.{◌≡◌, ℕ, true, false, ◌+◌, ◌*◌, ◌≤◌, ◌<◌, ◌++◌, cond, ◌∙◌, refl, sym, ap, arith}
+use Rattle.std.proofs.Common.{◌≡◌, ◌≤◌, ◌∙◌, refl, sym, ap, arith}
 use Rattle.vtype_cfg.proofs.Supported.{vlen_bounded}
-use Rattle.legal_groups.specs.Facts.{registers_for, group_count}
+use Rattle.legal_groups.specs.Facts.{registers_for}
 use Rattle.legal_groups.proofs.Widths.{width-least}
 use Rattle.frame_meaning.specs.Costs.{length_of as program_length}
 use Rattle.frame_meaning.specs.Shapes.{has_scalar}
-use Rattle.rvv_meaning.specs.Elementwise.{is_ones}
-use Rattle.vec_exec.specs.Recipes.{makes_bits, makes_halves}
 use Rattle.vec_exec.specs.Programs.{width_of, count_of}
 use Rattle.vec_exec.proofs.Fits.{fitted}
 use Rattle.vec_exec.proofs.Planned.{valid-length, plans, elements-fine, elements-program, elements-measured, halves-for, reads-for}

@@ -1,4 +1,4 @@
-use Rattle.std.proofs.Common.{◌≡◌, ℕ, ◌∙◌, sym}
+use Rattle.std.proofs.Common.{◌∙◌}
 use Rattle.vec_exec.specs.Programs.{width_of}
 use Rattle.vec_exec.proofs.Fits.{fitted}
 use Rattle.vec_exec.proofs.Planned.{plans}

@@ -1,12 +1,9 @@
-use Rattle.std.proofs.Common.{◌≡◌, ℕ, true, false, ◌+◌, ◌*◌, ◌≤◌, ◌<◌, ◌++◌, cond, ◌∙◌, sym, ap, arith, append_assoc}
+use Rattle.std.proofs.Common.{◌≡◌, ◌≤◌, ◌∙◌, sym, arith, append_assoc}
 use Rattle.vtype_cfg.proofs.Supported.{vlen_bounded}
-use Rattle.legal_groups.specs.Facts.{registers_for, group_count}
+use Rattle.legal_groups.specs.Facts.{group_count}
 use Rattle.legal_groups.proofs.Widths.{width-least}
-use Rattle.frame_meaning.specs.Costs.{length_of as program_length}
 use Rattle.frame_meaning.specs.Shapes.{has_scalar}
 use Rattle.rvv_meaning.specs.Elementwise.{is_ones}
-use Rattle.vec_exec.specs.Recipes.{makes_bits, makes_halves}
-use Rattle.vec_exec.specs.Programs.{width_of, count_of}
 use Rattle.vec_exec.proofs.Fits.{fitted}
 use Rattle.frame_meaning.specs.Masks.{compare_length_of}
 use Rattle.vec_exec.proofs.Planned.{valid-length, mask-plans, mask-width, bits-fine, bits-program, bits-measured, bits-for, reads-for}

@@ -1,5 +1,5 @@
 use Rattle.std.proofs.Common.{◌≡◌, ◌<◌, Bool, true, false, ◌||◌, refl, arith}
-use Rattle.vec_exec.specs.Recipes.{makes_halves, FitsRows, list_of, counts_of, length_of, Computes}
+use Rattle.vec_exec.specs.Recipes.{FitsRows, list_of, counts_of, length_of, Computes}
 use Rattle.vec_exec.proofs.Copied.{copied, copied-measured}
 use Rattle.vec_exec.proofs.Widths.{log2-is}
 use Rattle.vec_exec.proofs.recipes.emit_list.Goals as goal

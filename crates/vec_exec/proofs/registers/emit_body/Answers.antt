@@ -1,7 +1,4 @@
-use Rattle.std.proofs.Common.{◌≡◌, ◌++◌, ◌+◌, ◌∙◌, inl, sym, ap, arith, append_assoc}
-use Rattle.frame_laws.specs.Classes.Operands.{laid_out}
-use Rattle.vec_exec.specs.Recipes.{list_of, Computes, length_of, counts_of}
-use Rattle.vec_exec.specs.Programs.{width_of, operands_of, laid_counts, laid_length, list_for, kind_list}
+use Rattle.std.proofs.Common.{◌∙◌, inl, arith, append_assoc}
 use Rattle.vec_exec.proofs.Written.{measured-append}
 use Rattle.vec_exec.proofs.registers.emit_body.Goals as goal
 

@@ -1,7 +1,5 @@
-use Rattle.std.proofs.Common.{◌≡◌, ◌++◌, ◌∙◌, sym, append_assoc}
-use Rattle.std.proofs.lemmas.Bool.{false≢true}
-use Rattle.vec_exec.specs.Recipes.{list_of}
-use Rattle.vec_exec.specs.Programs.{window_list, mask_register_list}
+use Rattle.std.proofs.Common.{◌∙◌, append_assoc}
+use Rattle.vec_exec.specs.Programs.{mask_register_list}
 use Rattle.vec_exec.proofs.Written.{bits-no-halves}
 use Rattle.vec_exec.proofs.registers.emit_mask_register.Goals as goal
 
