@@ -54,6 +54,28 @@ KINDS = [
     *(Kind(funct6, [V, X], EITHER, f3=PRODUCT) for funct6 in (36, 37, 38, 39)),  # vmulhu, vmul, vmulhsu, vmulh
     *(Kind(funct6, [V, X], EITHER, f3=PRODUCT) for funct6 in (41, 43, 45, 47)),  # vmadd, vnmsub, vmacc, vnmsac
 ]
+
+
+class Resized(typing.NamedTuple):
+    """The funct6 of an instruction whose operands have several widths, its forms, f3 beside the form, the widths of vd and
+    vs2 in quarters of the present one, and what stands for vs1 where that names the instruction."""
+
+    funct6: int
+    forms: list
+    f3: int
+    vd: int
+    vs2: int
+    code: int | None = None
+
+
+QUARTER, HALF, SAME, TWICE = 1, 2, 4, 8
+RESIZED = [
+    *(Resized(funct6, FORMS, 0, SAME, TWICE) for funct6 in (44, 45)),  # vnsrl, vnsra
+    *(Resized(funct6, [V, X], PRODUCT, TWICE, SAME) for funct6 in (48, 49, 50, 51)),  # vwaddu, vwadd, vwsubu, vwsub
+    *(Resized(funct6, [V, X], PRODUCT, TWICE, TWICE) for funct6 in (52, 53, 54, 55)),  # the same with a wide vs2
+    *(Resized(18, [V], PRODUCT, SAME, HALF, code) for code in (6, 7)),  # vzext.vf2, vsext.vf2
+    *(Resized(18, [V], PRODUCT, SAME, QUARTER, code) for code in (4, 5)),  # vzext.vf4, vsext.vf4
+]
 MASK_KINDS = [kind for kind in KINDS if kind.writes_mask]
 # The kinds that have a masked word and do not write a mask, and those that lack a form or a value of vm.
 MASKED_KINDS = [kind for kind in KINDS if 0 in kind.unmasked and not kind.writes_mask]
@@ -300,6 +322,49 @@ class Program:
         vd = self.destination(kind, unmasked, form, vs2, vs1)
         return kind.word(unmasked, 0 if kind == MOVE else vs2, vs1, form, vd)
 
+    def has_width(self, quarters):
+        """Whether elements of so many quarters of the present width exist, and their groups."""
+        return 32 <= sew(self.vtype) * quarters <= 128 and 2 <= lmul(self.vtype) * quarters <= 128
+
+    def resized_group(self, quarters, near):
+        """The first register of a group of elements of that width, often one of those near a group."""
+        rng = self.rng
+        count = max(16, lmul(self.vtype) * quarters) // 16
+        drawn = rng.choice([near, near + count, near + 2 * count]) if rng.random() < 0.5 else rng.randrange(32)
+        first = drawn % 32 // count * count
+        return range(first, first + count)
+
+    def may_share(self, vd, wide, source, quarters):
+        """Whether a destination may share registers with a source of another width, both given with their widths."""
+        if wide == quarters or not set(vd) & set(source):
+            return True
+        if wide < quarters:
+            return vd.start == source.start and vd.stop <= source.stop
+        return source.stop == vd.stop and source.start >= vd.start and lmul(self.vtype) * quarters >= 16
+
+    def resized_kinds(self):
+        """The kinds whose widths exist under the present setting."""
+        return [kind for kind in RESIZED if self.has_width(kind.vd) and self.has_width(kind.vs2)]
+
+    def resized_word(self, legal):
+        """A word with operands of several widths; one that is not legal shares registers as it must not, or is its mask."""
+        rng = self.rng
+        kind = rng.choice(self.resized_kinds())
+        while True:
+            form, unmasked = rng.choice(kind.forms), rng.choice(EITHER)
+            vd = self.resized_group(kind.vd, 0)
+            vs2 = self.resized_group(kind.vs2, vd.start)
+            vs1 = self.resized_group(SAME, vd.start)
+            shares = self.may_share(vd, kind.vd, vs2, kind.vs2)
+            if form == V and kind.code is None:
+                shares = shares and self.may_share(vd, kind.vd, vs1, SAME)
+                second = vs1.start
+            else:
+                second = rng.choice(SCALARS) if form == X else rng.getrandbits(5)
+            if legal == (shares and (unmasked or vd.start != 0)):
+                second = second if kind.code is None else kind.code
+                return vector_word(kind.funct6, unmasked, vs2.start, second, form | kind.f3, vd.start)
+
     def alike(self):
         """Makes elements of a group equal to another operand where the mask is 1, for the next word."""
         form = self.rng.choice(FORMS)
@@ -360,7 +425,8 @@ class Program:
             self.corners()
         if rng.random() < 0.5:
             self.start()
-        self.words.append(self.any_word())
+        resizes = rng.random() < 0.25 and self.resized_kinds()
+        self.words.append(self.resized_word(True) if resizes else self.any_word())
 
     def illegal(self):
         """An illegal word, with what makes it illegal before it."""
@@ -370,6 +436,8 @@ class Program:
         if lmul(vtype) > 4:
             ways += [self.misaligned, self.in_source] * 2
         self.configure(vtype, self.any_length(vtype))
+        if self.resized_kinds():
+            ways.append(self.shares_badly)
         if rng.random() < 0.5:
             self.start()
         return rng.choice(ways)()
@@ -400,6 +468,10 @@ class Program:
         kind = self.rng.choice(MASKED_KINDS)
         form, vs2, vs1 = self.sources(kind)
         return kind.word(0, vs2, vs1, form, 0)
+
+    def shares_badly(self):
+        """A word with operands of several widths that share registers as they must not."""
+        return self.resized_word(False)
 
     def no_type(self):
         """A word that is legal under every vector type, and no vector type."""

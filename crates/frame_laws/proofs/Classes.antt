@@ -1,4 +1,7 @@
 -- The proofs of the classes' laws.
 pub mod Operands
+pub mod Spreading
 pub mod Plain
+pub mod Halves
+pub mod Halved
 pub mod Compared

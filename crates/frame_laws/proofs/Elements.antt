@@ -6,7 +6,8 @@ use Rattle.std.proofs.Math.Nat.{mul-le-mul_right, mod-lt}
 use Rattle.bit_laws.specs.Numbers.{number}
 use Rattle.bit_laws.proofs.Numbers.{number-same}
 use Rattle.bit_rows.specs.Slices.{Slices, placed}
-use Rattle.steer_net.specs.Network.{bit_in, numbered}
+use Rattle.steer_net.specs.Moves.{rewritten}
+use Rattle.steer_net.specs.Network.{bit_in, position, numbered}
 use Rattle.element_ops.specs.Elements.{Registers, element_in}
 use Rattle.micro_ir.specs.Steps.{element}
 use Rattle.micro_ir.proofs.Lift.{element-inside}
@@ -18,6 +19,62 @@ numbered-element w k col row first what s fits inside r j below =
     let p : placed s.columns (k * w + j) col ≡ true = rw (lt-ltb (k * w + j) 32 (omega arith), lt-ltb col s.columns inside) refl in
     element-inside w k col (numbered row w first what s) r j below
     ∙ rw (p, div-mul-add k w j below, element-inside w k col s r j below) refl
+
+-- a row whose bits are written by the places of its elements and their places in these
+pub rewritten-element : (w k col row : ℕ) (what : ℕ → ℕ → Bool) (s : Slices) → k * w + w ≤ 32 → col < s.columns → (r j : ℕ) → j < w
+    → element w k col (rewritten row w what s) r j ≡ cond (eqb r row) (what (col * (32 / w) + k) j) (element w k col s r j)
+rewritten-element w k col row what s fits inside r j below =
+    let p : placed s.columns (k * w + j) col ≡ true = rw (lt-ltb (k * w + j) 32 (omega arith), lt-ltb col s.columns inside) refl in
+    element-inside w k col (rewritten row w what s) r j below
+    ∙ rw (p, div-mul-add k w j below, mod-mul-add k w j below, element-inside w k col s r j below) refl
+
+-- where a bit of a row lies, by the elements of the row: in which one, and at which place of it
+bit-position : (w at : ℕ) → 0 < w → 32 / w * w ≡ 32 → (at / w ≡ position w (at % 32) (at / 32)) × (at % w ≡ at % 32 % w)
+bit-position w at pos lanes =
+    let sub = at % 32 in
+    let col = at / 32 in
+    let n = 32 / w in
+    let whole : col * 32 + sub ≡ at = div-add-mod' at 32 in
+    let parts : sub / w * w + sub % w ≡ sub = div-add-mod' sub w in
+    let rest : sub % w < w = mod-lt sub pos in
+    let more : col * (n * w) ≡ col * 32 = ap (λ x. col * x) lanes in
+    let e : at ≡ (col * n + sub / w) * w + sub % w = omega arith in
+    (ap (λ (x : ℕ). x / w) e ∙ div-mul-add (col * n + sub / w) w (sub % w) rest, ap (λ (x : ℕ). x % w) e ∙ mod-mul-add (col * n + sub / w) w (sub % w) rest)
+
+-- the same row, bit by bit
+pub rewritten-bit : (w row : ℕ) (what : ℕ → ℕ → Bool) (s : Slices) (r at : ℕ) → 0 < w → 32 / w * w ≡ 32 → at < 32 * s.columns
+    → bit_in (rewritten row w what s) r at ≡ cond (eqb r row) (what (at / w) (at % w)) (bit_in s r at)
+rewritten-bit w row what s r at pos lanes inside =
+    let place = bit-position w at pos lanes in
+    let sub : at % 32 < 32 = mod-lt at (omega arith) in
+    let col : at / 32 < s.columns = omega arith in
+    rw (place.0, place.1, lt-ltb (at % 32) 32 sub, lt-ltb (at / 32) s.columns col) refl
+
+-- Element p of a row of so many columns, with n elements to a column: in which column it lies, and which one it is there.
+pub record InColumn (w n columns p : ℕ) : Type 0 where
+  pub k : ℕ
+  pub col : ℕ
+  pub fits : k * w + w ≤ 32
+  pub inside : col < columns
+  pub number : col * n + k ≡ p
+  pub bits : (j : ℕ) → p * w + j ≡ col * 32 + (k * w + j)
+
+pub in_column : (w n columns p : ℕ) → 0 < w → n * w ≡ 32 → p < columns * n → InColumn w n columns p
+in_column w n columns p pos lanes inside =
+    let some : 0 < n = ⊎_elim (λ (l : 0 < n). l) (λ (l : n ≤ 0). let z : n * w ≤ 0 * w = mul-le-mul_right w l in absurd (omega arith)) (cases_lt 0 n) in
+    let parts : p / n * n + p % n ≡ p = div-add-mod' p n in
+    let k : p % n < n = mod-lt p some in
+    let f : suc (p % n) * w ≤ n * w = mul-le-mul_right w k in
+    let col : p / n < columns = ⊎_elim (λ (l : p / n < columns). l) (λ (l : columns ≤ p / n). let z : columns * n ≤ p / n * n = mul-le-mul_right n l in absurd (omega arith)) (cases_lt (p / n) columns) in
+    let all : p / n * (n * w) ≡ p / n * 32 = ap (λ x. p / n * x) lanes in
+    record {
+      k = p % n;
+      col = p / n;
+      fits = omega arith;
+      inside = col;
+      number = parts;
+      bits = λ j. let e : p * w ≡ (p / n * n + p % n) * w = ap (λ x. x * w) (sym parts) in omega arith;
+    }
 
 -- bit b of column col of a register, counted through its columns
 pub bit_place : (s : Slices) (r col b : ℕ) → b < 32 → bit_in s r (col * 32 + b) ≡ s.bit b r col

@@ -2,3 +2,4 @@
 pub mod Meaning
 pub mod Instructions
 pub mod Masks
+pub mod Halves

@@ -29,7 +29,8 @@ use Rattle.frame_laws.specs.Classes.Operands.{operand_of}
 use Rattle.frame_laws.specs.Classes.Compared.{AllTell, mask_value, IsMaskReadable, IsCompared}
 use Rattle.frame_laws.proofs.Classes.Operands.{whole-register}
 use Rattle.frame_laws.proofs.Classes.Compared.{compared_bytes_law}
-use Rattle.frame_meaning.specs.Shapes.{source_in_vs1, has_scalar, scalar_in, scalar_of}
+use Rattle.frame_meaning.specs.Shapes.{source_in_vs1, has_scalar, signs_of, scalar_in, scalar_of}
+use Rattle.frame_meaning.specs.declared.Order.TheVariants.{Straight}
 use Rattle.frame_meaning.specs.Laws.{Runs}
 use Rattle.frame_meaning.specs.Costs.{AllMeasured}
 use Rattle.frame_meaning.specs.Masks.{compare_operands, compare_row, compare_shape, compare_program, truth_in, IsTruth, LeavesMask, CompareMeaningLaw, compare_cost_of, compare_length_of, CompareMeasured, MaskCosts, CompareCostLaw}
@@ -104,10 +105,10 @@ module _ (i : VInstr) (c : Cfg) (x : ℕ) (operation : Operation) where
       let d = meaning.operand_d i c x at operation v e in
       let m = meaning.mask_operand i c x at operation v e in
       let first = element_of (c.vlen / 8) v i.vs2 w e in
-      let second = operand_of (source_in_vs1 i.form i.vs1) (c.vlen / 8) w (scalar_in i.form operation.signed_immediate w i.vs1 x) v e in
+      let second = operand_of (source_in_vs1 i.form i.vs1) (c.vlen / 8) w (scalar_in i.form Straight (signs_of operation) w i.vs1 x) v e in
       sym (valued w c.vxrm first second d m)
       ∙ ap (λ (z : ℕ). operation.value w c.vxrm z second d m) (sym (extended-same operation.signed_a w first))
-      ∙ ap (λ (z : ℕ). operation.value w c.vxrm (meaning.operand_a i c x at operation v e) z d m) (second-value i c x at operation i.form v e refl refl least small)
+      ∙ ap (λ (z : ℕ). operation.value w c.vxrm (meaning.operand_a i c x at operation v e) z d m) (second-value Straight i c x at operation i.form v e refl refl refl refl least small)
 
   -- the program leaves the registers of the meaning
   leaves : (truth : (w a b : ℕ) → Bool → Bool) (body : ℕ → List MicroOp) (s : Slices) → IsTruth operation truth
@@ -120,7 +121,7 @@ module _ (i : VInstr) (c : Cfg) (x : ℕ) (operation : Operation) where
       let w = width-of c.vtype.sew (groups-of s runs class).sew in
       compared_bytes_law shape (usual_bounds shape) with (truth_in i c operation truth) body s (compared truth s valued runs short class) bounded tells runs.some w.whole
       ∙ ap (λ (f : ℕ → ℕ). mask_after (mask_of shape) f v) (λ n e. value-here truth v e valued w.least runs.immediate n)
-      ∙ mask_meaning_law c (elements_at i c x (compare_row c.vtype.sew) operation) (reads_mask i operation) (has_scalar i.form) (scalar_of i c x operation.signed_immediate) c.vtype.sew shape.result v refl
+      ∙ mask_meaning_law c (elements_at i c x (compare_row c.vtype.sew) operation) (reads_mask i operation) (has_scalar i.form) (scalar_of Straight (signs_of operation) i c.vtype.sew x) c.vtype.sew shape.result v refl
       ∙ ap (λ (at : Row). registers_after c (elements_at i c x at operation) v) (sym (row-of-class (class_of i.op) c.vtype.sew i class))
 
   -- what it costs

@@ -3,3 +3,4 @@ pub mod Shapes
 pub mod Laws
 pub mod Costs
 pub mod Masks
+pub mod Halves

@@ -21,7 +21,8 @@ use Rattle.frame_laws.specs.Costs.{counts_times}
 use Rattle.frame_laws.specs.Masks.Programs.{mask_program}
 use Rattle.frame_laws.specs.Classes.Operands.{group, operand_number}
 use Rattle.frame_laws.specs.Classes.Compared.{Pair, Truth, AllTell}
-use Rattle.frame_meaning.specs.Shapes.{shape_of, source_in_vs1, has_scalar, scalar_of}
+use Rattle.frame_meaning.specs.Shapes.{shape_of, source_in_vs1, has_scalar, signs_of, scalar_of}
+use Rattle.frame_meaning.specs.declared.Order.TheVariants.{Straight}
 use Rattle.frame_meaning.specs.Laws.{Runs}
 use Rattle.frame_meaning.specs.Costs.{AllMeasured}
 
@@ -35,7 +36,7 @@ compare_row sew = row mask (group_place sew) (group_place sew)
 
 -- the number in the scalar's row
 abbrev pub compare_scalar : VInstr → Cfg → (x : ℕ) → Operation → ℕ
-compare_scalar i c x o = scalar_of i c x o.signed_immediate
+compare_scalar i c x o = scalar_of Straight (signs_of o) i c.vtype.sew x
 
 -- the number of an element's result; no comparison reads the mask that it writes over as an element
 abbrev pub compare_result : VInstr → Cfg → (x : ℕ) → Operation → Registers → ℕ → Bool → ℕ

@@ -4,17 +4,38 @@
 
 ghost use Rattle.frame_meaning.specs.Costs.{ElementsCostLaw};
 ghost use Rattle.frame_meaning.specs.Laws.{MeaningLaw, MaskMeaningLaw, ElementsMeaningLaw};
+ghost use Rattle.frame_meaning.specs.Halves.{HalvesMeaningLaw, HalvesCostLaw};
 ghost use Rattle.frame_meaning.specs.Masks.{CompareMeaningLaw, CompareCostLaw};
 
-/// How a list takes the operands of an instruction, and the destination as it was where that is one: vs2, then what stands in
-/// the place of vs1, then the destination; the first two in reversed order; what stands in the place of vs1 alone; or the
-/// destination, then what stands in the place of vs1, then vs2.
+/// How a list takes the operands of an instruction: vs2, then what stands in the place of vs1, and the destination as it was
+/// where that is a third one. In all but the first the operands are taken otherwise, or have other widths than the destination.
 #[derive(Clone, Copy, Debug, PartialEq, Eq)]
 pub enum Order {
+    /// All operands are as wide.
     Straight,
+    /// What stands in the place of vs1 comes first.
     Reversed,
+    /// What stands in the place of vs1 alone.
     Second,
+    /// The destination, what stands in the place of vs1, and vs2 as the third.
     Exchanged,
+    /// The destination is twice as wide as both.
+    Widening,
+    /// The destination is as wide as vs2, and twice as wide as the other.
+    WideSource,
+    /// vs2 alone, which is half as wide.
+    Half,
+    /// vs2 alone, which is a quarter as wide.
+    Quarter,
+}
+
+/// Which operands are extended by their sign, where they are narrower: vs2, what stands in the place of vs1, and an immediate
+/// there.
+#[derive(Clone, Copy, Debug, PartialEq, Eq)]
+pub struct Signs {
+    pub a: bool,
+    pub b: bool,
+    pub immediate: bool,
 }
 
 /// The registers of the frame are those of the meaning.
@@ -27,7 +48,8 @@ pub fn mask_meaning_law()
     ensures law { MaskMeaningLaw }
 {}
 
-/// The program of a legal instruction whose operands are groups of elements of SEW bits leaves the registers that it means.
+/// The program of a legal instruction whose operands are groups of elements at the same place leaves the registers that it
+/// means.
 pub fn elements_meaning_law()
     ensures law { ElementsMeaningLaw }
 {}
@@ -45,4 +67,15 @@ pub fn compare_meaning_law()
 /// What the program of a legal comparison costs, and that a chain can run it.
 pub fn compare_cost_law()
     ensures law { CompareCostLaw }
+{}
+
+/// The program of a legal instruction whose elements are half as wide as those of its first operand leaves the registers
+/// that it means.
+pub fn halves_meaning_law()
+    ensures law { HalvesMeaningLaw }
+{}
+
+/// What the program of such an instruction costs, and that a chain can run it.
+pub fn halves_cost_law()
+    ensures law { HalvesCostLaw }
 {}

@@ -18,9 +18,11 @@ const COLUMNS: u32 = 2;
 // The most micro-operations of one instruction.
 const ROOM: u32 = 262_144;
 
-// The vector types of elements of 8 bits and of 32 bits in one register, and of 32 bits in eight; and the flag of agnostic
-// masked elements.
+// The vector types of elements of 8 bits, of 16 bits and of 32 bits in one register, and of 32 bits in eight; and the flag of
+// agnostic masked elements.
 const E8_M1: u32 = 0;
+
+const E16_M1: u32 = 0x08;
 
 const E32_M1: u32 = 0x10;
 
@@ -34,6 +36,15 @@ const ADD: u32 = 0x0221_8257;
 const ADD_OF_EIGHT: u32 = 0x030c_0457;
 
 const EQUAL_UNDER_MASK: u32 = 0x6021_8057;
+
+// vsll.vv v4, v2, v3; vsext.vf2 v4, v2; vnsrl.wv v4, v2, v6; and vwaddu.vv v4, v2, v3.
+const SHIFTED: u32 = 0x9621_8257;
+
+const EXTENDED: u32 = 0x4a23_a257;
+
+const NARROWED: u32 = 0xb223_0257;
+
+const WIDENED: u32 = 0xc221_a257;
 
 // vmulhsu.vv v4, v2, v3; vmadd.vv v4, v3, v2; vnmsac.vv v4, v3, v2; vdiv.vv v4, v2, v3; and vrem.vv v4, v2, v3.
 const HIGH_PRODUCT: u32 = 0x9a21_a257;
@@ -72,7 +83,7 @@ struct Row {
     cost: Cost,
 }
 
-static ROWS: [Row; 9] = [
+static ROWS: [Row; 13] = [
     // no carry passes into the next element
     Row {
         word: ADD,
@@ -174,6 +185,59 @@ static ROWS: [Row; 9] = [
         after: &[Word(4, 1, 0xffff_fffb)],
         cost: (10507, 3822, 3226),
     },
+    // the amounts are 11 and 8, of which 3 and 0 count
+    Row {
+        word: SHIFTED,
+        vtype: E8_M1,
+        vl: 2,
+        policy: Policy::Keep,
+        before: &[Word(2, 0, 0xffff_8181), Word(3, 0, 0x0101_080b)],
+        after: &[Word(4, 0, 0x0000_8108)],
+        cost: (52, 43, 28),
+    },
+    Row {
+        word: EXTENDED,
+        vtype: E16_M1,
+        vl: 3,
+        policy: Policy::Keep,
+        before: &[Word(2, 0, 0xffff_7f80)],
+        after: &[Word(4, 0, 0x007f_ff80), Word(4, 1, 0x0000_ffff)],
+        cost: (10, 10, 8),
+    },
+    // the low and the high half of a register are those of two registers
+    Row {
+        word: NARROWED,
+        vtype: E8_M1,
+        vl: 5,
+        policy: Policy::Keep,
+        before: &[
+            Word(2, 0, 0x8000_1234),
+            Word(3, 0, 0xffff_abcd),
+            Word(6, 0, 0x0000_0f04),
+            Word(6, 1, 0x0000_0018),
+        ],
+        after: &[Word(4, 0, 0x0000_0123), Word(4, 1, 0x0000_00ab)],
+        cost: (198, 174, 150),
+    },
+    // the upper half of a register is added into the next one
+    Row {
+        word: WIDENED,
+        vtype: E8_M1,
+        vl: 5,
+        policy: Policy::Keep,
+        before: &[
+            Word(2, 0, 0x8000_7fff),
+            Word(2, 1, 0xffff_ffff),
+            Word(3, 0, 0x8000_8001),
+            Word(3, 1, 0xffff_ffff),
+        ],
+        after: &[
+            Word(4, 0, 0x00ff_0100),
+            Word(4, 1, 0x0100_0000),
+            Word(5, 0, 0x0000_01fe),
+        ],
+        cost: (256, 70, 30),
+    },
 ];
 
 // Whether it is an operation of the table.
@@ -182,7 +246,8 @@ fn is_planned(op: VOp) -> bool
     ensures { result ≡ true → is_on_elements op ≡ true }
 {
     match op {
-        VOp::Opi(OpiOp::Vadd | OpiOp::Vmseq) => true,
+        VOp::Opi(OpiOp::Vadd | OpiOp::Vmseq | OpiOp::Vsll | OpiOp::Vnsrl) => true,
+        VOp::Opm(OpmOp::VsextVf2 | OpmOp::Vwaddu) => true,
         VOp::Opm(OpmOp::Vmulhsu | OpmOp::Vmadd | OpmOp::Vnmsac) => true,
         VOp::Opm(OpmOp::Vdiv | OpmOp::Vrem) => true,
         _ => false,

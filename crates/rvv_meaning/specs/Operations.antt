@@ -11,8 +11,8 @@ use Rattle.rvv_decode.specs.declared.instruction.VOp.{VOp}
 use Rattle.rvv_decode.specs.declared.instruction.VOp.TheVariants.{Opi, Opm}
 use Rattle.rvv_decode.specs.declared.instruction.Form.{Form}
 use Rattle.rvv_decode.specs.declared.instruction.Form.TheVariants.{V, X, I}
-use Rattle.rvv_decode.specs.declared.instruction.OpiOp.TheVariants.{Vadd, Vsub, Vrsub, Vadc, Vsbc, Vmadc, Vmsbc, Vand, Vor, Vxor, Vsll, Vsrl, Vsra, Vmseq, Vmsne, Vmsltu, Vmslt, Vmsleu, Vmsle, Vmsgtu, Vmsgt, Vminu, Vmin, Vmaxu, Vmax, Vmerge, VmvV}
-use Rattle.rvv_decode.specs.declared.instruction.OpmOp.TheVariants.{Vdivu, Vdiv, Vremu, Vrem, Vmulhu, Vmul, Vmulhsu, Vmulh, Vmadd, Vnmsub, Vmacc, Vnmsac}
+use Rattle.rvv_decode.specs.declared.instruction.OpiOp.TheVariants.{Vadd, Vsub, Vrsub, Vadc, Vsbc, Vmadc, Vmsbc, Vand, Vor, Vxor, Vsll, Vsrl, Vsra, Vmseq, Vmsne, Vmsltu, Vmslt, Vmsleu, Vmsle, Vmsgtu, Vmsgt, Vminu, Vmin, Vmaxu, Vmax, Vmerge, VmvV, Vnsrl, Vnsra}
+use Rattle.rvv_decode.specs.declared.instruction.OpmOp.TheVariants.{VzextVf2, VzextVf4, VsextVf2, VsextVf4, Vwaddu, Vwadd, Vwsubu, Vwsub, VwadduW, VwaddW, VwsubuW, VwsubW, Vdivu, Vdiv, Vremu, Vrem, Vmulhu, Vmul, Vmulhsu, Vmulh, Vmadd, Vnmsub, Vmacc, Vnmsac}
 use Rattle.vtype_cfg.specs.declared.configuration.Cfg.{Cfg}
 use Rattle.vtype_cfg.specs.Classes.{Row, class_of, row_of, width_at, count_at, is_mask_place}
 use Rattle.rvv_meaning.specs.Elementwise.{Elementwise, size_of}
@@ -83,6 +83,18 @@ vsrl w a b = a / 2 ^ low (log2 w) b
 
 abbrev pub vsra : (w a b : ℕ) → ℕ
 vsra w a b = low_int w (int_shr (signed w a) (low (log2 w) b))
+
+-- shifts to the right of an a that is twice as wide, by the low bits of b, as many as the logarithm of that width (section
+-- 11.7): with zeros coming in, and with the sign coming in
+abbrev pub vnsrl : (w a b : ℕ) → ℕ
+vnsrl w a b = vsrl (2 * w) a b
+
+abbrev pub vnsra : (w a b : ℕ) → ℕ
+vnsra w a b = vsra (2 * w) a b
+
+-- an operand that is extended already (section 11.3)
+abbrev pub vext : (w a b : ℕ) → ℕ
+vext w a b = a
 
 -- whether they are equal (section 11.8)
 abbrev pub vmseq : (w a b : ℕ) → ℕ
@@ -230,7 +242,11 @@ of_two value = record {
 abbrev pub unsigned_immediate : ((w a b : ℕ) → ℕ) → Operation
 unsigned_immediate value = record (of_two value) { signed_immediate = false }
 
--- an operation on these and the mask bit
+-- the same, where narrower operands are extended by their sign
+abbrev pub on_signed : Operation → Operation
+on_signed o = record o { signed_a = true; signed_b = true }
+
+-- an operation on two operands and the mask bit
 abbrev pub of_two_and_mask : ((w a b : ℕ) → Bool → ℕ) → Operation
 of_two_and_mask value = record (of_two (λ w a b. 0)) { takes_mask = true; value = λ w mode a b d m. value w a b m }
 
@@ -320,6 +336,20 @@ operation_for (Opi Vmaxu) = Some (of_two vmaxu)
 operation_for (Opi Vmax) = Some (of_two vmax)
 operation_for (Opi Vmerge) = Some (of_two_and_mask vmerge)
 operation_for (Opi VmvV) = Some (of_two vmv)
+operation_for (Opi Vnsrl) = Some (unsigned_immediate vnsrl)
+operation_for (Opi Vnsra) = Some (unsigned_immediate vnsra)
+operation_for (Opm VzextVf2) = Some (of_two vext)
+operation_for (Opm VzextVf4) = Some (of_two vext)
+operation_for (Opm VsextVf2) = Some (on_signed (of_two vext))
+operation_for (Opm VsextVf4) = Some (on_signed (of_two vext))
+operation_for (Opm Vwaddu) = Some (of_two vadd)
+operation_for (Opm Vwadd) = Some (on_signed (of_two vadd))
+operation_for (Opm Vwsubu) = Some (of_two vsub)
+operation_for (Opm Vwsub) = Some (on_signed (of_two vsub))
+operation_for (Opm VwadduW) = Some (of_two vadd)
+operation_for (Opm VwaddW) = Some (on_signed (of_two vadd))
+operation_for (Opm VwsubuW) = Some (of_two vsub)
+operation_for (Opm VwsubW) = Some (on_signed (of_two vsub))
 operation_for (Opm Vmul) = Some (of_two vmul)
 operation_for (Opm Vmulh) = Some (of_two vmulh)
 operation_for (Opm Vmulhu) = Some (of_two vmulhu)

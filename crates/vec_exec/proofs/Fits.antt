@@ -2,26 +2,28 @@
 use Rattle.std.proofs.Common.{◌≡◌, ℕ, ◌+◌, ◌-◌, ◌*◌, ◌^◌, eqb, Bool, true, false, cond, leb, ltb, Option, Some, None, refl, ap, arith, mul_comm}
 use Rattle.std.specs.Prelude.{is_some, ℤ, pos, negsuc, ◌*ℤ◌, int_div, int_rem}
 use Rattle.std.specs.Int.{int_shr, int_div_euclid}
-use Rattle.rvv_decode.specs.declared.instruction.OpiOp.TheVariants.{Vadd, Vsub, Vrsub, Vadc, Vsbc, Vmadc, Vmsbc, Vand, Vor, Vxor, Vsll, Vsrl, Vsra, Vmseq, Vmsne, Vmsltu, Vmslt, Vmsleu, Vmsle, Vmsgtu, Vmsgt, Vminu, Vmin, Vmaxu, Vmax, Vmerge, VmvV}
-use Rattle.rvv_decode.specs.declared.instruction.OpmOp.TheVariants.{Vdivu, Vdiv, Vremu, Vrem, Vmulhu, Vmul, Vmulhsu, Vmulh, Vmadd, Vnmsub, Vmacc, Vnmsac}
+use Rattle.rvv_decode.specs.declared.instruction.OpiOp.TheVariants.{Vadd, Vsub, Vrsub, Vadc, Vsbc, Vmadc, Vmsbc, Vand, Vor, Vxor, Vsll, Vsrl, Vsra, Vmseq, Vmsne, Vmsltu, Vmslt, Vmsleu, Vmsle, Vmsgtu, Vmsgt, Vminu, Vmin, Vmaxu, Vmax, Vmerge, VmvV, Vnsrl, Vnsra}
+use Rattle.rvv_decode.specs.declared.instruction.OpmOp.TheVariants.{Vdivu, Vdiv, Vremu, Vrem, Vmulhu, Vmul, Vmulhsu, Vmulh, Vmadd, Vnmsub, Vmacc, Vnmsac, VzextVf2, VzextVf4, VsextVf2, VsextVf4, Vwaddu, Vwadd, Vwsubu, Vwsub, VwadduW, VwaddW, VwsubuW, VwsubW}
 use Rattle.rvv_decode.specs.declared.instruction.ConfigOp.{ConfigOp}
 use Rattle.rvv_decode.specs.declared.instruction.MemoryOp.{MemoryOp}
 use Rattle.rvv_decode.specs.declared.instruction.VOp.{VOp}
 use Rattle.rvv_decode.specs.declared.instruction.VOp.TheVariants.{Opi, Opm, Config, Memory}
-use Rattle.vtype_cfg.specs.Classes.{Class, class_of, opi_class, opm_class, compare}
+use Rattle.vtype_cfg.specs.Classes.{Class, class_of, opi_class, opm_class, compare, narrowing}
 use Rattle.bit_laws.specs.Numbers.{low}
 use Rattle.bit_laws.specs.Signed.{signed}
 use Rattle.gen_shift.specs.Kinds as shifts
 use Rattle.rvv_meaning.specs.Operations.{low_int, log2, Operation, operation_for}
 use Rattle.rvv_meaning.specs.Vectors.{is_built}
 use Rattle.frame_meaning.specs.declared.Order.{Order}
-use Rattle.frame_meaning.specs.declared.Order.TheVariants.{Straight, Reversed, Second, Exchanged}
-use Rattle.frame_meaning.specs.Laws.{IgnoresFirst}
+use Rattle.frame_meaning.specs.declared.Order.TheVariants.{Straight, Widening, WideSource, Half, Quarter}
+use Rattle.frame_meaning.specs.declared.Signs.{Signs}
+use Rattle.frame_meaning.specs.Halves.{IsOfHalves}
+use Rattle.frame_meaning.specs.Laws.{Ignores}
 use Rattle.frame_meaning.specs.Masks.{IsTruth}
-use Rattle.frame_meaning.specs.Shapes.{class_in}
+use Rattle.frame_meaning.specs.Shapes.{class_in, signs_of, value_by}
 use Rattle.vec_exec.specs.declared.recipes.Listed.{Listed}
 use Rattle.vec_exec.specs.declared.recipes.Recipe.{Recipe}
-use Rattle.vec_exec.specs.Recipes.{recipe_for, makes_bits, takes_row, value_of, truth_of}
+use Rattle.vec_exec.specs.Recipes.{recipe_for, makes_bits, makes_halves, takes_row, takes_laid, uses_wide_rows, value_of, truth_of}
 
 -- ---- what a recipe and its operation have in common
 
@@ -29,23 +31,48 @@ use Rattle.vec_exec.specs.Recipes.{recipe_for, makes_bits, takes_row, value_of, 
 abbrev pub never : (w mode a b d : ℕ) → Bool → Bool
 never w mode a b d m = false
 
+-- whether a list takes one operand alone, which is laid out for it
+abbrev pub takes_one_laid : Order → Bool
+takes_one_laid Half = true
+takes_one_laid Quarter = true
+takes_one_laid _ = false
+
+-- whether operands are laid out in the rows of wide operands
+abbrev pub has_wide_rows : Order → Bool
+has_wide_rows Widening = true
+has_wide_rows WideSource = true
+has_wide_rows _ = false
+
 -- what says how a program is made
 pub record Traits : Type 0 where
   pub takes_mask : Bool
-  pub signed : Bool
+  pub signs : Signs
   pub plain : Bool
   pub masked : Bool
+  pub plain_laid : Bool
+  pub masked_laid : Bool
+  -- whether the lists use the rows of wide operands, and whether they do so though these hold operands
+  pub uses_wide : Bool
+  pub clashes : Bool
   pub bits : Bool
+  pub halves : Bool
+  pub order_of_bits : Order
   pub class : Class
   pub clips : (w mode a b d : ℕ) → Bool → Bool
 
 abbrev pub traits_of : VOp → Recipe → Operation → Traits
 traits_of op r o = record {
   takes_mask = r.takes_mask;
-  signed = r.signed;
+  signs = r.signs;
   plain = takes_row r.plain;
   masked = takes_row r.masked;
+  plain_laid = takes_laid r.plain;
+  masked_laid = takes_laid r.masked;
+  uses_wide = uses_wide_rows r.plain;
+  clashes = cond (has_wide_rows r.order) (uses_wide_rows r.masked) false;
   bits = makes_bits r.plain;
+  halves = makes_halves r.plain;
+  order_of_bits = cond (makes_bits r.masked) r.order Straight;
   class = class_of op;
   clips = o.clips;
 }
@@ -53,25 +80,19 @@ traits_of op r o = record {
 abbrev pub traits_wanted : Recipe → Operation → Traits
 traits_wanted r o = record {
   takes_mask = o.takes_mask;
-  signed = o.signed_immediate;
+  signs = signs_of o;
   plain = false;
   masked = r.takes_mask;
+  plain_laid = takes_one_laid r.order;
+  masked_laid = takes_one_laid r.order;
+  uses_wide = uses_wide_rows r.masked;
+  clashes = false;
   bits = makes_bits r.masked;
-  class = cond (makes_bits r.masked) compare (class_in r.order);
+  halves = makes_halves r.masked;
+  order_of_bits = Straight;
+  class = cond (makes_bits r.masked) compare (cond (makes_halves r.masked) narrowing (class_in r.order));
   clips = never;
 }
-
--- a list that takes the second operand alone computes what does not depend on the first one
-abbrev pub Ignores : Order → Operation → Type 0
-Ignores Second o = IgnoresFirst o
-Ignores _ o = Unit {0}
-
--- the value of an operation as a list takes its operands
-abbrev pub value_by : Order → Operation → (w mode a b d : ℕ) → Bool → ℕ
-value_by Straight o w mode a b d m = o.value w mode a b (cond o.takes_old d 0) m
-value_by Reversed o w mode a b d m = o.value w mode b a (cond o.takes_old d 0) m
-value_by Exchanged o w mode a b d m = o.value w mode d b (cond o.takes_old a 0) m
-value_by Second o w mode a b d m = o.value w mode a b (cond o.takes_old d 0) m
 
 -- the list with the mask computes the value, or tells the truth
 abbrev pub Means : (bits : Bool) → Recipe → Operation → Type 0
@@ -83,11 +104,17 @@ abbrev pub Unmasked : (bits : Bool) → (plain masked : Listed) → Type 0
 Unmasked false plain masked = (w a b d : ℕ) (m : Bool) → value_of plain w a b d m ≡ value_of masked w a b d false
 Unmasked true plain masked = (w a b : ℕ) (m : Bool) → truth_of plain w a b m ≡ truth_of masked w a b false
 
+-- the operation can be computed half by half
+abbrev pub ForHalves : (halves : Bool) → Recipe → Operation → Type 0
+ForHalves false r o = Unit {0}
+ForHalves true r o = IsOfHalves o × (r.order ≡ Straight)
+
 pub record Fits (op : VOp) (r : Recipe) (o : Operation) : Type 0 where
   pub same : traits_of op r o ≡ traits_wanted r o
   pub ignores : Ignores r.order o
   pub means : Means (makes_bits r.masked) r o
   pub unmasked : Unmasked (makes_bits r.masked) r.plain r.masked
+  pub halves : ForHalves (makes_halves r.masked) r o
 
 -- ---- each operation
 
@@ -111,46 +138,60 @@ taken w a b d = ap (λ (n : ℕ). d + (2 ^ w - low w n)) (mul_comm a b)
 
 fits : (op : VOp) → FitsIf op (recipe_for op) (operation_for op)
 unfolding recipe_for operation_for opi_class opm_class
-fits (Opi Vadd) = record { same = refl; ignores = tt; means = λ w mode a b d m. refl; unmasked = λ w a b d m. refl }
-fits (Opi Vsub) = record { same = refl; ignores = tt; means = λ w mode a b d m. refl; unmasked = λ w a b d m. refl }
-fits (Opi Vrsub) = record { same = refl; ignores = tt; means = λ w mode a b d m. refl; unmasked = λ w a b d m. refl }
-fits (Opi Vadc) = record { same = refl; ignores = tt; means = λ w mode a b d m. refl; unmasked = λ w a b d m. omega arith }
-fits (Opi Vsbc) = record { same = refl; ignores = tt; means = λ w mode a b d m. refl; unmasked = λ w a b d m. omega arith }
-fits (Opi Vmadc) = record { same = refl; ignores = tt; means = λ w mode a b d m. refl; unmasked = λ w a b m. let e : a + b ≡ a + b + 0 = omega arith in ap (leb (2 ^ w)) e }
-fits (Opi Vmsbc) = record { same = refl; ignores = tt; means = λ w mode a b d m. refl; unmasked = λ w a b m. let e : b ≡ b + 0 = omega arith in ap (ltb a) e }
-fits (Opi Vand) = record { same = refl; ignores = tt; means = λ w mode a b d m. refl; unmasked = λ w a b d m. refl }
-fits (Opi Vor) = record { same = refl; ignores = tt; means = λ w mode a b d m. refl; unmasked = λ w a b d m. refl }
-fits (Opi Vxor) = record { same = refl; ignores = tt; means = λ w mode a b d m. refl; unmasked = λ w a b d m. refl }
-fits (Opi Vsll) = record { same = refl; ignores = tt; means = λ w mode a b d m. refl; unmasked = λ w a b d m. refl }
-fits (Opi Vsrl) = record { same = refl; ignores = tt; means = λ w mode a b d m. refl; unmasked = λ w a b d m. refl }
-fits (Opi Vsra) = record { same = refl; ignores = tt; means = λ w mode a b d m. same-low w (int_shr (signed w a) (low (log2 w) b)); unmasked = λ w a b d m. refl }
-fits (Opi Vmseq) = record { same = refl; ignores = tt; means = λ w mode a b d m. refl; unmasked = λ w a b m. refl }
-fits (Opi Vmsne) = record { same = refl; ignores = tt; means = λ w mode a b d m. refl; unmasked = λ w a b m. refl }
-fits (Opi Vmsltu) = record { same = refl; ignores = tt; means = λ w mode a b d m. refl; unmasked = λ w a b m. refl }
-fits (Opi Vmslt) = record { same = refl; ignores = tt; means = λ w mode a b d m. refl; unmasked = λ w a b m. refl }
-fits (Opi Vmsleu) = record { same = refl; ignores = tt; means = λ w mode a b d m. refl; unmasked = λ w a b m. refl }
-fits (Opi Vmsle) = record { same = refl; ignores = tt; means = λ w mode a b d m. refl; unmasked = λ w a b m. refl }
-fits (Opi Vmsgtu) = record { same = refl; ignores = tt; means = λ w mode a b d m. refl; unmasked = λ w a b m. refl }
-fits (Opi Vmsgt) = record { same = refl; ignores = tt; means = λ w mode a b d m. refl; unmasked = λ w a b m. refl }
-fits (Opi Vminu) = record { same = refl; ignores = tt; means = λ w mode a b d m. refl; unmasked = λ w a b d m. refl }
-fits (Opi Vmin) = record { same = refl; ignores = tt; means = λ w mode a b d m. refl; unmasked = λ w a b d m. refl }
-fits (Opi Vmaxu) = record { same = refl; ignores = tt; means = λ w mode a b d m. refl; unmasked = λ w a b d m. refl }
-fits (Opi Vmax) = record { same = refl; ignores = tt; means = λ w mode a b d m. refl; unmasked = λ w a b d m. refl }
-fits (Opi Vmerge) = record { same = refl; ignores = tt; means = λ w mode a b d m. refl; unmasked = λ w a b d m. refl }
-fits (Opi VmvV) = record { same = refl; ignores = λ w mode x y b d m. refl; means = λ w mode a b d m. refl; unmasked = λ w a b d m. refl }
+fits (Opi Vadd) = record { same = refl; ignores = tt; means = λ w mode a b d m. refl; unmasked = λ w a b d m. refl; halves = tt }
+fits (Opi Vsub) = record { same = refl; ignores = tt; means = λ w mode a b d m. refl; unmasked = λ w a b d m. refl; halves = tt }
+fits (Opi Vrsub) = record { same = refl; ignores = tt; means = λ w mode a b d m. refl; unmasked = λ w a b d m. refl; halves = tt }
+fits (Opi Vadc) = record { same = refl; ignores = tt; means = λ w mode a b d m. refl; unmasked = λ w a b d m. omega arith; halves = tt }
+fits (Opi Vsbc) = record { same = refl; ignores = tt; means = λ w mode a b d m. refl; unmasked = λ w a b d m. omega arith; halves = tt }
+fits (Opi Vmadc) = record { same = refl; ignores = tt; means = λ w mode a b d m. refl; unmasked = λ w a b m. let e : a + b ≡ a + b + 0 = omega arith in ap (leb (2 ^ w)) e; halves = tt }
+fits (Opi Vmsbc) = record { same = refl; ignores = tt; means = λ w mode a b d m. refl; unmasked = λ w a b m. let e : b ≡ b + 0 = omega arith in ap (ltb a) e; halves = tt }
+fits (Opi Vand) = record { same = refl; ignores = tt; means = λ w mode a b d m. refl; unmasked = λ w a b d m. refl; halves = tt }
+fits (Opi Vor) = record { same = refl; ignores = tt; means = λ w mode a b d m. refl; unmasked = λ w a b d m. refl; halves = tt }
+fits (Opi Vxor) = record { same = refl; ignores = tt; means = λ w mode a b d m. refl; unmasked = λ w a b d m. refl; halves = tt }
+fits (Opi Vsll) = record { same = refl; ignores = tt; means = λ w mode a b d m. refl; unmasked = λ w a b d m. refl; halves = tt }
+fits (Opi Vsrl) = record { same = refl; ignores = tt; means = λ w mode a b d m. refl; unmasked = λ w a b d m. refl; halves = tt }
+fits (Opi Vsra) = record { same = refl; ignores = tt; means = λ w mode a b d m. same-low w (int_shr (signed w a) (low (log2 w) b)); unmasked = λ w a b d m. refl; halves = tt }
+fits (Opi Vmseq) = record { same = refl; ignores = tt; means = λ w mode a b d m. refl; unmasked = λ w a b m. refl; halves = tt }
+fits (Opi Vmsne) = record { same = refl; ignores = tt; means = λ w mode a b d m. refl; unmasked = λ w a b m. refl; halves = tt }
+fits (Opi Vmsltu) = record { same = refl; ignores = tt; means = λ w mode a b d m. refl; unmasked = λ w a b m. refl; halves = tt }
+fits (Opi Vmslt) = record { same = refl; ignores = tt; means = λ w mode a b d m. refl; unmasked = λ w a b m. refl; halves = tt }
+fits (Opi Vmsleu) = record { same = refl; ignores = tt; means = λ w mode a b d m. refl; unmasked = λ w a b m. refl; halves = tt }
+fits (Opi Vmsle) = record { same = refl; ignores = tt; means = λ w mode a b d m. refl; unmasked = λ w a b m. refl; halves = tt }
+fits (Opi Vmsgtu) = record { same = refl; ignores = tt; means = λ w mode a b d m. refl; unmasked = λ w a b m. refl; halves = tt }
+fits (Opi Vmsgt) = record { same = refl; ignores = tt; means = λ w mode a b d m. refl; unmasked = λ w a b m. refl; halves = tt }
+fits (Opi Vminu) = record { same = refl; ignores = tt; means = λ w mode a b d m. refl; unmasked = λ w a b d m. refl; halves = tt }
+fits (Opi Vmin) = record { same = refl; ignores = tt; means = λ w mode a b d m. refl; unmasked = λ w a b d m. refl; halves = tt }
+fits (Opi Vmaxu) = record { same = refl; ignores = tt; means = λ w mode a b d m. refl; unmasked = λ w a b d m. refl; halves = tt }
+fits (Opi Vmax) = record { same = refl; ignores = tt; means = λ w mode a b d m. refl; unmasked = λ w a b d m. refl; halves = tt }
+fits (Opi Vmerge) = record { same = refl; ignores = tt; means = λ w mode a b d m. refl; unmasked = λ w a b d m. refl; halves = tt }
+fits (Opi VmvV) = record { same = refl; ignores = λ w mode x y b d m. refl; means = λ w mode a b d m. refl; unmasked = λ w a b d m. refl; halves = tt }
+fits (Opi Vnsrl) = record { same = refl; ignores = tt; means = λ w mode a b d m. refl; unmasked = λ w a b d m. refl; halves = (record { ignores = λ w mode a b d m. refl; a = refl; b = refl; immediate = refl }, refl) }
+fits (Opi Vnsra) = record { same = refl; ignores = tt; means = λ w mode a b d m. same-low (2 * w) (int_shr (signed (2 * w) a) (low (log2 (2 * w)) b)); unmasked = λ w a b d m. refl; halves = (record { ignores = λ w mode a b d m. refl; a = refl; b = refl; immediate = refl }, refl) }
+fits (Opm Vmul) = record { same = refl; ignores = tt; means = λ w mode a b d m. refl; unmasked = λ w a b d m. refl; halves = tt }
+fits (Opm Vmulh) = record { same = refl; ignores = tt; means = λ w mode a b d m. same-low w (int_div_euclid (signed w a *ℤ signed w b) (pos (2 ^ w))); unmasked = λ w a b d m. refl; halves = tt }
+fits (Opm Vmulhu) = record { same = refl; ignores = tt; means = λ w mode a b d m. refl; unmasked = λ w a b d m. refl; halves = tt }
+fits (Opm Vmulhsu) = record { same = refl; ignores = tt; means = λ w mode a b d m. same-low w (int_div_euclid (signed w a *ℤ pos b) (pos (2 ^ w))); unmasked = λ w a b d m. refl; halves = tt }
+fits (Opm Vdivu) = record { same = refl; ignores = tt; means = λ w mode a b d m. refl; unmasked = λ w a b d m. refl; halves = tt }
+fits (Opm Vdiv) = record { same = refl; ignores = tt; means = λ w mode a b d m. ap (cond (eqb b 0) (2 ^ w - 1)) (same-low w (int_div (signed w a) (signed w b))); unmasked = λ w a b d m. refl; halves = tt }
+fits (Opm Vremu) = record { same = refl; ignores = tt; means = λ w mode a b d m. refl; unmasked = λ w a b d m. refl; halves = tt }
+fits (Opm Vrem) = record { same = refl; ignores = tt; means = λ w mode a b d m. ap (cond (eqb b 0) a) (same-low w (int_rem (signed w a) (signed w b))); unmasked = λ w a b d m. refl; halves = tt }
+fits (Opm Vmacc) = record { same = refl; ignores = tt; means = λ w mode a b d m. added a b d; unmasked = λ w a b d m. refl; halves = tt }
+fits (Opm Vnmsac) = record { same = refl; ignores = tt; means = λ w mode a b d m. taken w a b d; unmasked = λ w a b d m. refl; halves = tt }
+fits (Opm Vmadd) = record { same = refl; ignores = tt; means = λ w mode a b d m. added a b d; unmasked = λ w a b d m. refl; halves = tt }
+fits (Opm Vnmsub) = record { same = refl; ignores = tt; means = λ w mode a b d m. taken w a b d; unmasked = λ w a b d m. refl; halves = tt }
+fits (Opm VzextVf2) = record { same = refl; ignores = λ w mode a x y d m. refl; means = λ w mode a b d m. refl; unmasked = λ w a b d m. refl; halves = tt }
+fits (Opm VzextVf4) = record { same = refl; ignores = λ w mode a x y d m. refl; means = λ w mode a b d m. refl; unmasked = λ w a b d m. refl; halves = tt }
+fits (Opm VsextVf2) = record { same = refl; ignores = λ w mode a x y d m. refl; means = λ w mode a b d m. refl; unmasked = λ w a b d m. refl; halves = tt }
+fits (Opm VsextVf4) = record { same = refl; ignores = λ w mode a x y d m. refl; means = λ w mode a b d m. refl; unmasked = λ w a b d m. refl; halves = tt }
+fits (Opm Vwaddu) = record { same = refl; ignores = tt; means = λ w mode a b d m. refl; unmasked = λ w a b d m. refl; halves = tt }
+fits (Opm Vwadd) = record { same = refl; ignores = tt; means = λ w mode a b d m. refl; unmasked = λ w a b d m. refl; halves = tt }
+fits (Opm Vwsubu) = record { same = refl; ignores = tt; means = λ w mode a b d m. refl; unmasked = λ w a b d m. refl; halves = tt }
+fits (Opm Vwsub) = record { same = refl; ignores = tt; means = λ w mode a b d m. refl; unmasked = λ w a b d m. refl; halves = tt }
+fits (Opm VwadduW) = record { same = refl; ignores = tt; means = λ w mode a b d m. refl; unmasked = λ w a b d m. refl; halves = tt }
+fits (Opm VwaddW) = record { same = refl; ignores = tt; means = λ w mode a b d m. refl; unmasked = λ w a b d m. refl; halves = tt }
+fits (Opm VwsubuW) = record { same = refl; ignores = tt; means = λ w mode a b d m. refl; unmasked = λ w a b d m. refl; halves = tt }
+fits (Opm VwsubW) = record { same = refl; ignores = tt; means = λ w mode a b d m. refl; unmasked = λ w a b d m. refl; halves = tt }
 fits (Opi _) = tt
-fits (Opm Vmul) = record { same = refl; ignores = tt; means = λ w mode a b d m. refl; unmasked = λ w a b d m. refl }
-fits (Opm Vmulh) = record { same = refl; ignores = tt; means = λ w mode a b d m. same-low w (int_div_euclid (signed w a *ℤ signed w b) (pos (2 ^ w))); unmasked = λ w a b d m. refl }
-fits (Opm Vmulhu) = record { same = refl; ignores = tt; means = λ w mode a b d m. refl; unmasked = λ w a b d m. refl }
-fits (Opm Vmulhsu) = record { same = refl; ignores = tt; means = λ w mode a b d m. same-low w (int_div_euclid (signed w a *ℤ pos b) (pos (2 ^ w))); unmasked = λ w a b d m. refl }
-fits (Opm Vdivu) = record { same = refl; ignores = tt; means = λ w mode a b d m. refl; unmasked = λ w a b d m. refl }
-fits (Opm Vdiv) = record { same = refl; ignores = tt; means = λ w mode a b d m. ap (cond (eqb b 0) (2 ^ w - 1)) (same-low w (int_div (signed w a) (signed w b))); unmasked = λ w a b d m. refl }
-fits (Opm Vremu) = record { same = refl; ignores = tt; means = λ w mode a b d m. refl; unmasked = λ w a b d m. refl }
-fits (Opm Vrem) = record { same = refl; ignores = tt; means = λ w mode a b d m. ap (cond (eqb b 0) a) (same-low w (int_rem (signed w a) (signed w b))); unmasked = λ w a b d m. refl }
-fits (Opm Vmacc) = record { same = refl; ignores = tt; means = λ w mode a b d m. added a b d; unmasked = λ w a b d m. refl }
-fits (Opm Vnmsac) = record { same = refl; ignores = tt; means = λ w mode a b d m. taken w a b d; unmasked = λ w a b d m. refl }
-fits (Opm Vmadd) = record { same = refl; ignores = tt; means = λ w mode a b d m. added a b d; unmasked = λ w a b d m. refl }
-fits (Opm Vnmsub) = record { same = refl; ignores = tt; means = λ w mode a b d m. taken w a b d; unmasked = λ w a b d m. refl }
 fits (Opm _) = tt
 fits (Config _) = tt
 fits (Memory _) = tt

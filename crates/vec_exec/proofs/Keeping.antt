@@ -1,7 +1,7 @@
 -- The programs leave the control numbers.
-use Rattle.std.proofs.Common.{◌≡◌, ℕ, ◌+◌, Bool, true, false, cond, List, [], ◌∷◌, ◌++◌, zero, suc, refl}
+use Rattle.std.proofs.Common.{◌≡◌, ℕ, ◌+◌, ◌*◌, Bool, true, false, cond, List, [], ◌∷◌, ◌++◌, zero, suc, refl}
 use Rattle.micro_ir.specs.declared.op.MicroOp.{MicroOp}
-use Rattle.micro_ir.specs.declared.op.MicroOp.TheVariants.{PackMask}
+use Rattle.micro_ir.specs.declared.op.MicroOp.TheVariants.{PackMask, Narrow}
 use Rattle.micro_ir.specs.Replay.{all_keep_control}
 use Rattle.micro_ir.specs.WorkRows.{active_row, truth_row}
 use Rattle.micro_ir.proofs.Lists.{keep-append}
@@ -10,11 +10,16 @@ use Rattle.rvv_decode.specs.declared.instruction.VInstr.{VInstr}
 use Rattle.vtype_cfg.specs.declared.configuration.Cfg.{Cfg}
 use Rattle.rvv_meaning.specs.Elementwise.{is_ones}
 use Rattle.vec_exec.specs.declared.recipes.Listed.{Listed}
-use Rattle.vec_exec.specs.declared.recipes.Listed.TheVariants.{Bits, Sums, Truths, Choices, Shifts, Products, Divisions}
+use Rattle.vec_exec.specs.declared.recipes.Listed.TheVariants.{Bits, Sums, Truths, Choices, Shifts, Products, Divisions, Copies, Halves}
 use Rattle.vec_exec.specs.declared.recipes.Recipe.{Recipe}
+use Rattle.frame_laws.specs.Classes.Halved.{Pair, Lists, halves_row, half_list, halves_list}
+use Rattle.frame_laws.specs.Classes.Operands.{Operand, group, scalar, narrow, laid_out}
+use Rattle.frame_meaning.specs.Halves.{half_count}
 use Rattle.frame_meaning.specs.Shapes.{has_scalar}
+use Rattle.micro_ir.specs.Pieces.{commit}
+use Rattle.micro_ir.specs.Steps.{micros}
 use Rattle.vec_exec.specs.Recipes.{list_of}
-use Rattle.vec_exec.specs.Programs.{reads, masked, list_for, scalar_list, window_list, fill_list, free_bits, mask_fill_list, kind_list, truth_list, first_in, register_list, registers_list, mask_register_list, mask_registers_list, element_program, mask_program}
+use Rattle.vec_exec.specs.Programs.{reads, masked, list_for, width_of, operands_of, halves_of, scalar_list, window_list, fill_list, free_bits, mask_fill_list, kind_list, truth_list, wide_lists, body_list, half_list_of, first_in, register_list, registers_list, mask_register_list, mask_registers_list, half_register_list, half_registers_list, element_program, mask_program, half_program}
 
 -- a list that is there, or not
 cond-keep : (b : Bool) (ops : List MicroOp) → all_keep_control ops ≡ true → all_keep_control (cond b ops []) ≡ true
@@ -30,26 +35,53 @@ list-keep (Choices kind) w a b d to = micros-keep w _
 list-keep (Shifts kind) w a b d to = micros-keep w _
 list-keep (Products kind) w a b d to = micros-keep w _
 list-keep (Divisions kind) w a b d to = micros-keep w _
+list-keep Copies w a b d to = micros-keep w _
+list-keep (Halves kind) w a b d to = micros-keep (2 * w) _
 
-scalar-keep : (signed : Bool) (i : VInstr) (c : Cfg) (x : ℕ) → all_keep_control (scalar_list signed i c x) ≡ true
-scalar-keep signed i c x = cond-keep (has_scalar i.form) _ (micros-keep c.vtype.sew _)
+laid-keep : (op : Operand) (w g : ℕ) → all_keep_control (laid_out op w g) ≡ true
+laid-keep (group r) w g = refl
+laid-keep scalar w g = refl
+laid-keep (narrow signed by n r row) w g = cond-keep signed _ (micros-keep w _)
 
-window-keep : (c : Cfg) (reads masked : Bool) (first : ℕ) → all_keep_control (window_list c reads masked first) ≡ true
-window-keep c reads masked first = cond-keep reads _ refl
+scalar-keep : (i : VInstr) (width number : ℕ) → all_keep_control (scalar_list i width number) ≡ true
+scalar-keep i width number = cond-keep (has_scalar i.form) _ (micros-keep width _)
 
-fill-keep : (c : Cfg) (first : ℕ) (masked : Bool) (to : ℕ) → all_keep_control (fill_list c first masked to) ≡ true
-fill-keep c first masked to = cond-keep (is_ones c.policy) _ (micros-keep c.vtype.sew _)
+window-keep : (c : Cfg) (width : ℕ) (reads masked : Bool) (first : ℕ) → all_keep_control (window_list c width reads masked first) ≡ true
+window-keep c width reads masked first = cond-keep reads _ refl
+
+fill-keep : (c : Cfg) (width first : ℕ) (masked : Bool) (to : ℕ) → all_keep_control (fill_list c width first masked to) ≡ true
+fill-keep c width first masked to = cond-keep (is_ones c.policy) _ (micros-keep width _)
 
 free-keep : (c : Cfg) (masked : Bool) (g : ℕ) → all_keep_control (free_bits c masked g) ≡ true
 free-keep c masked zero = cond-keep (is_ones c.policy) _ refl
 free-keep c masked (suc g) = refl
 
+-- the operations on the halves of a register
+halves-keep : (w : ℕ) (with : Pair) (lists : Lists) → ((q : ℕ) → all_keep_control (lists.body q) ≡ true) → (g count : ℕ) → all_keep_control (halves_list w with lists g count) ≡ true
+unfolding halves_list
+halves-keep w with lists keep g zero = refl
+halves-keep w with lists keep g (suc h) =
+    let last : List MicroOp = Narrow lists.row halves_row (2 * w) h ∷ [] in
+    keep-append (halves_list w with lists g h) (half_list w with lists g h) (halves-keep w with lists keep g h)
+    (keep-append (laid_out with.b (2 * w) (2 * g + h)) (lists.body (2 * g + h) ++ last) (laid-keep with.b (2 * w) (2 * g + h)) (keep-append (lists.body (2 * g + h)) last (keep (2 * g + h)) refl))
+
 module _ (r : Recipe) (i : VInstr) (c : Cfg) where
+  -- what stands round the list of a register
+  around-keep : (width first to : ℕ) (body : List MicroOp) → all_keep_control body ≡ true
+      → all_keep_control (window_list c width (reads r i) (masked r i) first ++ (body ++ fill_list c width first (masked r i) to)) ≡ true
+  around-keep width first to body keep =
+      keep-append (window_list c width (reads r i) (masked r i) first) (body ++ fill_list c width first (masked r i) to) (window-keep c width (reads r i) (masked r i) first)
+      (keep-append body (fill_list c width first (masked r i) to) keep (fill-keep c width first (masked r i) to))
+
+  body-keep : (g : ℕ) → all_keep_control (body_list r i c g) ≡ true
+  body-keep g =
+      let with = operands_of r i c in
+      keep-append (laid_out with.a (width_of r c) g) (laid_out with.b (width_of r c) g ++ kind_list r i c g) (laid-keep with.a (width_of r c) g)
+      (keep-append (laid_out with.b (width_of r c) g) (kind_list r i c g) (laid-keep with.b (width_of r c) g) (list-keep (list_for r i) (width_of r c) _ _ _ _))
+
   register-keep : (g : ℕ) → all_keep_control (register_list r i c g) ≡ true
   unfolding register_list
-  register-keep g =
-      keep-append (window_list c (reads r i) (masked r i) (first_in r i c g)) (kind_list r i c g ++ fill_list c (first_in r i c g) (masked r i) (i.vd + g)) (window-keep c (reads r i) (masked r i) (first_in r i c g))
-      (keep-append (kind_list r i c g) (fill_list c (first_in r i c g) (masked r i) (i.vd + g)) (list-keep (list_for r i) c.vtype.sew _ _ _ _) (fill-keep c (first_in r i c g) (masked r i) (i.vd + g)))
+  register-keep g = around-keep (width_of r c) (first_in r i c (width_of r c) g) (i.vd + g) (body_list r i c g) (body-keep g)
 
   registers-keep : (count : ℕ) → all_keep_control (registers_list r i c count) ≡ true
   unfolding registers_list
@@ -59,8 +91,9 @@ module _ (r : Recipe) (i : VInstr) (c : Cfg) where
   mask-register-keep : (g : ℕ) → all_keep_control (mask_register_list r i c g) ≡ true
   unfolding mask_register_list
   mask-register-keep g =
-      let last : List MicroOp = PackMask truth_row active_row i.vd c.vtype.sew (first_in r i c g) ∷ [] in
-      keep-append (window_list c (reads r i) (masked r i) (first_in r i c g)) (truth_list r i c g ++ (free_bits c (masked r i) g ++ last)) (window-keep c (reads r i) (masked r i) (first_in r i c g))
+      let first = first_in r i c c.vtype.sew g in
+      let last : List MicroOp = PackMask truth_row active_row i.vd c.vtype.sew first ∷ [] in
+      keep-append (window_list c c.vtype.sew (reads r i) (masked r i) first) (truth_list r i c g ++ (free_bits c (masked r i) g ++ last)) (window-keep c c.vtype.sew (reads r i) (masked r i) first)
       (keep-append (truth_list r i c g) (free_bits c (masked r i) g ++ last) (list-keep (list_for r i) c.vtype.sew _ _ _ _)
       (keep-append (free_bits c (masked r i) g) last (free-keep c (masked r i) g) refl))
 
@@ -69,11 +102,28 @@ module _ (r : Recipe) (i : VInstr) (c : Cfg) where
   mask-registers-keep zero = refl
   mask-registers-keep (suc g) = keep-append (mask_registers_list r i c g) (mask_register_list r i c g) (mask-registers-keep g) (mask-register-keep g)
 
-  -- the programs of results that are elements, and of results that are the bits of a mask
+  half-register-keep : (g : ℕ) → all_keep_control (half_register_list r i c g) ≡ true
+  unfolding half_register_list
+  half-register-keep g =
+      around-keep c.vtype.sew (first_in r i c c.vtype.sew g) (i.vd + g) (half_list_of r i c g)
+      (keep-append (halves_list c.vtype.sew (halves_of r i c) (wide_lists r i c) g (half_count c.vtype)) (micros c.vtype.sew (commit c.vtype.sew halves_row (i.vd + g)))
+      (halves-keep c.vtype.sew (halves_of r i c) (wide_lists r i c) (λ q. list-keep (list_for r i) c.vtype.sew _ _ _ _) g (half_count c.vtype))
+      (micros-keep c.vtype.sew _))
+
+  half-registers-keep : (count : ℕ) → all_keep_control (half_registers_list r i c count) ≡ true
+  unfolding half_registers_list
+  half-registers-keep zero = refl
+  half-registers-keep (suc g) = keep-append (half_registers_list r i c g) (half_register_list r i c g) (half-registers-keep g) (half-register-keep g)
+
+  -- the programs of results that are elements, of results that are the bits of a mask, and of elements half as wide as the
+  -- first operand
   pub elements-keep : (x : ℕ) → all_keep_control (element_program r i c x) ≡ true
-  elements-keep x = keep-append (scalar_list r.signed i c x) (registers_list r i c _) (scalar-keep r.signed i c x) (registers-keep _)
+  elements-keep x = keep-append (scalar_list i _ _) (registers_list r i c _) (scalar-keep i _ _) (registers-keep _)
 
   pub mask-keep : (x : ℕ) → all_keep_control (mask_program r i c x) ≡ true
   mask-keep x =
-      keep-append (scalar_list r.signed i c x) (mask_registers_list r i c _ ++ mask_fill_list c i.vd) (scalar-keep r.signed i c x)
+      keep-append (scalar_list i _ _) (mask_registers_list r i c _ ++ mask_fill_list c i.vd) (scalar-keep i _ _)
       (keep-append (mask_registers_list r i c _) (mask_fill_list c i.vd) (mask-registers-keep _) (cond-keep (is_ones c.policy) _ (micros-keep c.vtype.sew _)))
+
+  pub halves-keep-program : (x : ℕ) → all_keep_control (half_program r i c x) ≡ true
+  halves-keep-program x = keep-append (scalar_list i _ _) (half_registers_list r i c _) (scalar-keep i _ _) (half-registers-keep _)

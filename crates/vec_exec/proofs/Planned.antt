@@ -1,50 +1,61 @@
 -- What a plan writes is the program in the frame; what legality says of its rows; and what the program does and costs.
-use Rattle.std.proofs.Common.{◌≡◌, inl, inr, ℕ, zero, suc, ◌+◌, ◌*◌, ◌/◌, ◌<◌, ◌≤◌, Bool, true, false, ◌&&◌, not, cond, eqb, List, ◌++◌, Some, refl, sym, ◌∙◌, ap, arith, ⊎_elim}
+use Rattle.std.proofs.Common.{◌≡◌, inl, inr, ℕ, zero, suc, ◌+◌, ◌*◌, ◌/◌, ◌<◌, ◌≤◌, Bool, true, false, ◌&&◌, not, cond, eqb, nat_lt, List, ◌++◌, Some, refl, sym, ◌∙◌, ap, subst, arith, ◌⊎◌}
 use Rattle.std.specs.Prelude.{IsTrue}
-use Rattle.std.proofs.lemmas.Bool.{and_parts, leb-true, cases_Bool}
+use Rattle.std.proofs.lemmas.Bool.{and_parts, leb-true, ne_eqb, false≢true}
 use Rattle.bit_rows.specs.Slices.{Slices, blank}
 use Rattle.cam_chain.specs.Views.{registers_of}
+use Rattle.gen_div.specs.Rows.{IsSignedRow}
+use Rattle.gen_div.specs.declared.kinds.Division.TheVariants.{Divu, Remu, Div, Rem}
+use Rattle.gen_shift.specs.Laws.{LeavesValue}
+use Rattle.gen_shift.specs.Rows.{is_among, shift_rows, shifted_row}
 use Rattle.micro_ir.specs.declared.op.MicroOp.{MicroOp}
 use Rattle.micro_ir.specs.Kinds.{Realises}
-use Rattle.micro_ir.specs.Replay.{replay, tally, AllInRange, clips, all_keep_control}
-use Rattle.micro_ir.specs.WorkRows.{IsOperandRow}
+use Rattle.micro_ir.specs.Measures.{Measured}
+use Rattle.micro_ir.specs.Replay.{replay, tally, all_keep_control, AllInRange}
+use Rattle.micro_ir.specs.WorkRows.{IsOperandRow, result_row, left_row, right_row, scalar_row}
 use Rattle.micro_ir.proofs.Lists.{clips-none}
 use Rattle.micro_ir.proofs.Valued.{realises-same, tells-same}
+use Rattle.steer_net.specs.Moves.{is_wide}
 use Rattle.rvv_decode.specs.declared.instruction.Form.{Form}
 use Rattle.rvv_decode.specs.declared.instruction.Form.TheVariants.{V, X, I}
 use Rattle.rvv_decode.specs.declared.instruction.VInstr.{VInstr}
 use Rattle.vtype_cfg.specs.declared.configuration.Cfg.{Cfg}
+use Rattle.vtype_cfg.specs.declared.vtype.Vtype.{Vtype}
 use Rattle.vtype_cfg.specs.Settings.{is_legal_vlen, is_vill_or_supported, is_valid, vlmax}
-use Rattle.vtype_cfg.specs.Classes.{class_of, compare}
+use Rattle.vtype_cfg.specs.Classes.{class_of, compare, narrowing}
+use Rattle.vtype_cfg.specs.Classes as classes
 use Rattle.vtype_cfg.specs.Legality.{is_legal}
 use Rattle.vtype_cfg.proofs.Lengths.{vlen_from, vlen_words}
-use Rattle.gen_div.specs.Rows.{IsSignedRow}
-use Rattle.gen_div.specs.declared.kinds.Division.TheVariants.{Divu, Remu, Div, Rem}
-use Rattle.legal_groups.specs.Facts.{IsElementWidth, group_count, SameOrApart, SewGroups, MaskGroups}
-use Rattle.legal_groups.proofs.Groups.{legal_plain_law, legal_move_law, legal_compare_law}
+use Rattle.legal_groups.specs.Facts.{IsElementWidth, registers_for, group_count, ReadBeside, GroupWritten, MaskGroups}
+use Rattle.legal_groups.proofs.Groups.{legal_compare_law}
+use Rattle.legal_groups.proofs.Laws.{legal_group_law}
 use Rattle.rvv_meaning.specs.Elementwise.{Elementwise, registers_after, clips_below, clips as clips_elements}
-use Rattle.rvv_meaning.specs.Operations.{Operation, operation_for, on_elements, elements_at, reads_mask}
-use Rattle.frame_laws.specs.Classes.Operands.{row_of}
-use Rattle.frame_laws.specs.Classes.Plain.{AllCompute}
+use Rattle.rvv_meaning.specs.Operations.{Operation, operation_for, on_elements, elements_at, reads_mask, log2}
+use Rattle.frame_laws.specs.Classes.Operands.{narrow, row_of, IsReadable}
+use Rattle.frame_laws.specs.Classes.Plain.{Operands, Value, with_operands, IsPlain, AllCompute}
+use Rattle.frame_laws.specs.Classes.Halved.{AllLeave}
 use Rattle.frame_laws.specs.Classes.Compared.{AllTell}
 use Rattle.frame_laws.specs.Programs.{program, first_registers, one_register}
 use Rattle.frame_laws.specs.Shapes.{Shape, usual_bounds}
 use Rattle.frame_laws.specs.Masks.Programs as masks
 use Rattle.frame_meaning.specs.declared.Order.{Order}
-use Rattle.frame_meaning.specs.declared.Order.TheVariants.{Straight, Reversed, Second, Exchanged}
-use Rattle.frame_meaning.specs.Shapes.{source_in_vs1, class_in, operands_in, value_in, elements_in, shape_in, program_in}
-use Rattle.frame_meaning.specs.Laws.{Runs, IgnoresFirst}
+use Rattle.frame_meaning.specs.declared.Order.TheVariants.{Straight, Reversed, Second, Exchanged, Widening, WideSource, Half, Quarter}
+use Rattle.frame_meaning.specs.declared.Signs.{Signs}
+use Rattle.frame_meaning.specs.Shapes.{source_in_vs1, narrow_in_vs1, signs_of, scalar_of, width_in, count_in, class_in, operands_in, value_by, value_in, elements_in, shape_in, body_in, program_in}
+use Rattle.frame_meaning.specs.Laws.{Runs}
 use Rattle.frame_meaning.specs.Costs.{ElementsMeasured}
+use Rattle.frame_meaning.specs.Halves.{half_count, half_in_vs1, half_operands, half_scalar, half_value_in, half_elements, half_shape, half_body, half_program_in, IsOfHalves}
 use Rattle.frame_meaning.specs.Masks.{IsTruth, truth_in, compare_operands, compare_shape, compare_program, CompareMeasured}
-use Rattle.frame_meaning.proofs.Instructions.{elements_meaning_law, elements_cost_law}
+use Rattle.frame_meaning.proofs.Instructions.{facts-of, is-plain, elements_meaning_law, elements_cost_law}
+use Rattle.frame_meaning.proofs.Halves.{HalvesThere, halves-there, halves_meaning_law, halves_cost_law}
 use Rattle.frame_meaning.proofs.Masks.{compare_meaning_law, compare_cost_law}
 use Rattle.vec_exec.specs.declared.recipes.Listed.{Listed}
-use Rattle.vec_exec.specs.declared.recipes.Listed.TheVariants.{Bits, Sums, Truths, Choices, Shifts, Products, Divisions}
+use Rattle.vec_exec.specs.declared.recipes.Listed.TheVariants.{Bits, Sums, Truths, Choices, Shifts, Products, Divisions, Copies, Halves}
 use Rattle.vec_exec.specs.declared.recipes.Recipe.{Recipe}
-use Rattle.vec_exec.specs.Recipes.{recipe_for, makes_bits, takes_row, value_of, truth_of, list_of, counts_of, length_of, Computes, HasDivisionRows}
-use Rattle.vec_exec.specs.Programs.{reads, list_for, kind_list, truth_list, element_program, mask_program, register_list, registers_list, mask_register_list, mask_registers_list, mask_fill_list, scalar_list, IsPlaced, IsMaskPlaced, IsMade, IsMaskMade, RealisesInstruction, prog, program_by, cost, cost_by, masked}
-use Rattle.vec_exec.proofs.Fits.{Traits, Ignores, value_by, Means, Unmasked, Fits}
-use Rattle.vec_exec.proofs.Keeping.{elements-keep, mask-keep}
+use Rattle.vec_exec.specs.Recipes.{recipe_for, makes_bits, makes_halves, takes_row, takes_laid, uses_wide_rows, FitsRows, value_of, truth_of, list_of, counts_of, length_of, Computes}
+use Rattle.vec_exec.specs.Programs.{reads, list_for, width_of, count_of, kind_list, truth_list, wide_lists, body_counts, body_length, half_counts, half_length, element_program, mask_program, half_program, register_list, registers_list, mask_register_list, mask_registers_list, half_register_list, half_registers_list, mask_fill_list, scalar_list, IsLayable, IsPlaced, IsMaskPlaced, IsHalfPlaced, IsMade, IsMaskMade, IsHalfMade, RealisesInstruction, prog, program_by, cost, cost_by}
+use Rattle.vec_exec.proofs.Keeping.{elements-keep, mask-keep, halves-keep-program}
+use Rattle.vec_exec.proofs.Fits.{Traits, takes_one_laid, has_wide_rows, Means, Unmasked, Fits}
 
 -- ---- what a valid configuration has
 
@@ -61,101 +72,226 @@ pub valid-short : (c : Cfg) → IsTrue (is_valid c) → c.vl ≤ vlmax c.vtype c
 unfolding is_valid
 valid-short c valid = leb-true c.vl (vlmax c.vtype c.vlen) (and_parts _ _ (and_parts _ _ (and_parts _ _ valid).0).0).1
 
--- ---- widths and rows
+-- ---- rows
 
 no-bit : (w : ℕ) → IsElementWidth w → eqb w 1 ≡ false
 no-bit w (inl is) = rw is refl
 no-bit w (inr (inl is)) = rw is refl
 no-bit w (inr (inr is)) = rw is refl
 
--- the groups of an instruction with a group as its destination
-abbrev Facts : Order → VInstr → Cfg → Type 0
-Facts Straight i c = SewGroups i c.vtype × SameOrApart (group_count c.vtype) i.vd i.vs2
-Facts Reversed i c = SewGroups i c.vtype × SameOrApart (group_count c.vtype) i.vd i.vs2
-Facts Exchanged i c = SewGroups i c.vtype × SameOrApart (group_count c.vtype) i.vd i.vs2
-Facts Second i c = SewGroups i c.vtype
+-- the row of what stands in the place of vs1: where it is as wide, and where it is laid out
+second-row : (sh : Shape) (form : Form) (vs1 g : ℕ) → g < sh.registers → IsReadable sh (source_in_vs1 form vs1) → IsSignedRow (row_of (source_in_vs1 form vs1) g)
+second-row sh V vs1 g inside readable = inl (readable g inside).0
+second-row sh X vs1 g inside readable = inr refl
+second-row sh I vs1 g inside readable = inr refl
 
-groups-in : (order : Order) (i : VInstr) (c : Cfg) → Facts order i c → SewGroups i c.vtype
-groups-in Straight i c f = f.0
-groups-in Reversed i c f = f.0
-groups-in Exchanged i c f = f.0
-groups-in Second i c f = f
+wide-row : (form : Form) (signed : Bool) (sew vs1 g : ℕ) → IsOperandRow (row_of (narrow_in_vs1 form signed sew vs1) g)
+wide-row V signed sew vs1 g = inr (inr (inr (inr refl)))
+wide-row X signed sew vs1 g = inr (inr (inl refl))
+wide-row I signed sew vs1 g = inr (inr (inl refl))
 
-second-row : (form : Form) (vs1 n g : ℕ) → g < n → (form ≡ V → vs1 + n ≤ 32) → IsSignedRow (row_of (source_in_vs1 form vs1) g)
-second-row V vs1 n g inside room = let r : vs1 + n ≤ 32 = room refl in inl (omega arith)
-second-row X vs1 n g inside room = inr refl
-second-row I vs1 n g inside room = inr refl
+compared-row : (form : Form) (vs1 n g : ℕ) → g < n → (form ≡ V → vs1 + n ≤ 32) → IsSignedRow (row_of (source_in_vs1 form vs1) g)
+compared-row V vs1 n g inside room = let r : vs1 + n ≤ 32 = room refl in inl (omega arith)
+compared-row X vs1 n g inside room = inr refl
+compared-row I vs1 n g inside room = inr refl
 
 operand-row : (row : ℕ) → IsSignedRow row → IsOperandRow row
 operand-row row (inl register) = inl register
 operand-row row (inr scalar) = inr (inr (inl scalar))
 
--- rows that a division may take, with signs or without
-division-rows : (list : Listed) (a b : ℕ) → IsSignedRow a → IsSignedRow b → HasDivisionRows list a b
-division-rows (Divisions Divu) a b first second = (operand-row a first, operand-row b second)
-division-rows (Divisions Remu) a b first second = (operand-row a first, operand-row b second)
-division-rows (Divisions Div) a b first second = (first, second)
-division-rows (Divisions Rem) a b first second = (first, second)
-division-rows (Bits kind) a b first second = tt
-division-rows (Sums kind) a b first second = tt
-division-rows (Truths kind) a b first second = tt
-division-rows (Choices kind) a b first second = tt
-division-rows (Shifts kind) a b first second = tt
-division-rows (Products kind) a b first second = tt
+-- the rows that fit a list: registers and the scalar's, those of wide operands too, and that of results
+plain-rows : (list : Listed) (a b : ℕ) → takes_laid list ≡ false → IsSignedRow a → IsSignedRow b → FitsRows list a b
+plain-rows (Divisions Divu) a b laid first second = (operand-row a first, operand-row b second)
+plain-rows (Divisions Remu) a b laid first second = (operand-row a first, operand-row b second)
+plain-rows (Divisions Div) a b laid first second = (first, second)
+plain-rows (Divisions Rem) a b laid first second = (first, second)
+plain-rows (Bits kind) a b laid first second = (operand-row a first, operand-row b second)
+plain-rows (Sums kind) a b laid first second = (operand-row a first, operand-row b second)
+plain-rows (Truths kind) a b laid first second = (operand-row a first, operand-row b second)
+plain-rows (Choices kind) a b laid first second = (operand-row a first, operand-row b second)
+plain-rows (Shifts kind) a b laid first second = (operand-row a first, operand-row b second)
+plain-rows (Products kind) a b laid first second = (operand-row a first, operand-row b second)
+plain-rows (Halves kind) a b laid first second = (operand-row a first, operand-row b second)
+plain-rows Copies a b laid first second = absurd (false≢true (sym laid))
 
--- the rows of the operands for register g
-record Rows (order : Order) (i : VInstr) (g : ℕ) : Type 0 where
-  a : IsSignedRow (row_of (operands_in order i).a g)
-  b : IsSignedRow (row_of (operands_in order i).b g)
-  addend : IsOperandRow (row_of (operands_in order i).addend g)
+wide-rows : (list : Listed) (a b : ℕ) → takes_laid list ≡ false → uses_wide_rows list ≡ false → IsOperandRow a → IsOperandRow b → FitsRows list a b
+wide-rows (Divisions kind) a b laid free first second = absurd (false≢true (sym free))
+wide-rows (Bits kind) a b laid free first second = (first, second)
+wide-rows (Sums kind) a b laid free first second = (first, second)
+wide-rows (Truths kind) a b laid free first second = (first, second)
+wide-rows (Choices kind) a b laid free first second = (first, second)
+wide-rows (Shifts kind) a b laid free first second = (first, second)
+wide-rows (Products kind) a b laid free first second = (first, second)
+wide-rows (Halves kind) a b laid free first second = (first, second)
+wide-rows Copies a b laid free first second = absurd (false≢true (sym laid))
 
-rows-in : (order : Order) (i : VInstr) (c : Cfg) → Facts order i c → (g : ℕ) → g < group_count c.vtype → Rows order i g
-rows-in Straight i c f g inside =
-    let r : i.vs2 + group_count c.vtype ≤ 32 = f.1.0 in
-    let d : i.vd + group_count c.vtype ≤ 32 = f.0.room in
-    record { a = inl (omega arith); b = second-row i.form i.vs1 (group_count c.vtype) g inside (λ is. (f.0.vs1 is).0); addend = inl (omega arith) }
-rows-in Reversed i c f g inside =
-    let r : i.vs2 + group_count c.vtype ≤ 32 = f.1.0 in
-    let d : i.vd + group_count c.vtype ≤ 32 = f.0.room in
-    record { a = second-row i.form i.vs1 (group_count c.vtype) g inside (λ is. (f.0.vs1 is).0); b = inl (omega arith); addend = inl (omega arith) }
-rows-in Exchanged i c f g inside =
-    let r : i.vs2 + group_count c.vtype ≤ 32 = f.1.0 in
-    let d : i.vd + group_count c.vtype ≤ 32 = f.0.room in
-    record { a = inl (omega arith); b = second-row i.form i.vs1 (group_count c.vtype) g inside (λ is. (f.0.vs1 is).0); addend = inl (omega arith) }
-rows-in Second i c f g inside =
-    let r : i.vd + group_count c.vtype ≤ 32 = f.room in
-    record { a = inl (omega arith); b = second-row i.form i.vs1 (group_count c.vtype) g inside (λ is. (f.vs1 is).0); addend = inl (omega arith) }
+laid-rows : (list : Listed) (b : ℕ) → takes_laid list ≡ true → IsOperandRow b → FitsRows list result_row b
+laid-rows Copies b laid second = (refl, second)
+laid-rows (Divisions kind) b laid second = absurd (false≢true laid)
+laid-rows (Bits kind) b laid second = absurd (false≢true laid)
+laid-rows (Sums kind) b laid second = absurd (false≢true laid)
+laid-rows (Truths kind) b laid second = absurd (false≢true laid)
+laid-rows (Choices kind) b laid second = absurd (false≢true laid)
+laid-rows (Shifts kind) b laid second = absurd (false≢true laid)
+laid-rows (Products kind) b laid second = absurd (false≢true laid)
+laid-rows (Halves kind) b laid second = absurd (false≢true laid)
+
+-- rows that fit a list are rows
+operand-small : (r : ℕ) → IsOperandRow r → r < 64
+operand-small r (inl is) = omega (arith, is)
+operand-small r (inr (inl is)) = omega (arith, is)
+operand-small r (inr (inr (inl is))) = omega (arith, is)
+operand-small r (inr (inr (inr (inl is)))) = omega (arith, is)
+operand-small r (inr (inr (inr (inr is)))) = omega (arith, is)
+
+both-small : (a b : ℕ) → IsOperandRow a × IsOperandRow b → (a < 64) × (b < 64)
+both-small a b fit = (operand-small a fit.0, operand-small b fit.1)
+
+fits-small : (list : Listed) (a b : ℕ) → FitsRows list a b → (a < 64) × (b < 64)
+fits-small (Divisions Divu) a b fit = both-small a b fit
+fits-small (Divisions Remu) a b fit = both-small a b fit
+fits-small (Divisions Div) a b fit = both-small a b (operand-row a fit.0, operand-row b fit.1)
+fits-small (Divisions Rem) a b fit = both-small a b (operand-row a fit.0, operand-row b fit.1)
+fits-small (Bits kind) a b fit = both-small a b fit
+fits-small (Sums kind) a b fit = both-small a b fit
+fits-small (Truths kind) a b fit = both-small a b fit
+fits-small (Choices kind) a b fit = both-small a b fit
+fits-small (Shifts kind) a b fit = both-small a b fit
+fits-small (Products kind) a b fit = both-small a b fit
+fits-small (Halves kind) a b fit = both-small a b fit
+fits-small Copies a b fit = let is : a ≡ 36 = fit.0 in (omega arith, operand-small b fit.1)
+
+-- an operand that can be read can be laid out
+layable : (sh : Shape) (signed : Bool) (by n first row g : ℕ) → IsElementWidth n → g < sh.registers → IsReadable sh (narrow signed by n first row) → IsLayable (narrow signed by n first row) sh.width g
+layable sh signed by n first row g wide inside readable = ((readable.1 g inside).0, wide, readable.0.times, readable.0.wide)
+
+second-layable : (sh : Shape) (form : Form) (vs1 g : ℕ) → IsLayable (source_in_vs1 form vs1) sh.width g
+second-layable sh V vs1 g = tt
+second-layable sh X vs1 g = tt
+second-layable sh I vs1 g = tt
+
+wide-layable : (sh : Shape) (form : Form) (signed : Bool) (sew vs1 g : ℕ) → IsElementWidth sew → g < sh.registers → IsReadable sh (narrow_in_vs1 form signed sew vs1) → IsLayable (narrow_in_vs1 form signed sew vs1) sh.width g
+wide-layable sh V signed sew vs1 g wide inside readable = layable sh signed 2 sew vs1 right_row g wide inside readable
+wide-layable sh X signed sew vs1 g wide inside readable = tt
+wide-layable sh I signed sew vs1 g wide inside readable = tt
+
+-- the rows of a list's operands for register g, and that they can be laid out
+record Rows (list : Listed) (with : Operands) (w g : ℕ) : Type 0 where
+  fit : FitsRows list (row_of with.a g) (row_of with.b g)
+  addend : with.addend + g < 32
+  first : IsLayable with.a w g
+  second : IsLayable with.b w g
 
 -- what a plan needs of an instruction
 pub record Plans (r : Recipe) (i : VInstr) (c : Cfg) : Type 0 where
   pub sew : IsElementWidth c.vtype.sew
-  pub few : group_count c.vtype ≤ 8
-  pub placed : (g : ℕ) → g < group_count c.vtype → IsPlaced r i g
+  pub width : IsElementWidth (width_of r c)
+  pub few : count_of r c ≤ 8
+  pub placed : (g : ℕ) → g < count_of r c → IsPlaced r i c g
 
-pub record MaskPlans (i : VInstr) (c : Cfg) : Type 0 where
+pub record MaskPlans (r : Recipe) (i : VInstr) (c : Cfg) : Type 0 where
   pub sew : IsElementWidth c.vtype.sew
   pub few : group_count c.vtype ≤ 8
   pub vd : i.vd < 32
-  pub placed : (g : ℕ) → g < group_count c.vtype → IsMaskPlaced i g
+  pub placed : (g : ℕ) → g < group_count c.vtype → IsMaskPlaced r i g
+
+pub record HalfPlans (r : Recipe) (i : VInstr) (c : Cfg) : Type 0 where
+  pub narrow : (c.vtype.sew ≡ 8) ⊎ (c.vtype.sew ≡ 16)
+  pub few : registers_for c.vtype c.vtype.sew ≤ 8
+  pub placed : (g : ℕ) → g < registers_for c.vtype c.vtype.sew → IsHalfPlaced r i c g
+
+-- what legality says of such an instruction
+record HalfLegal (i : VInstr) (c : Cfg) : Type 0 where
+  written : GroupWritten narrowing i c.vtype c.vtype.sew
+  source : ReadBeside c.vtype c.vtype.sew i.vd (2 * c.vtype.sew) i.vs2
+  second : i.form ≡ V → ReadBeside c.vtype c.vtype.sew i.vd c.vtype.sew i.vs1
+  there : HalvesThere c.vtype
+
+-- ---- sources of other widths
+
+source-half : (i : VInstr) (c : Cfg) → GroupWritten (class_in Half) i c.vtype c.vtype.sew → IsElementWidth (c.vtype.sew / 2)
+unfolding classes.row_of
+source-half i c facts = (facts.sources.vs2 (c.vtype.sew / 2) refl).width
+
+source-quarter : (i : VInstr) (c : Cfg) → GroupWritten (class_in Quarter) i c.vtype c.vtype.sew → IsElementWidth (c.vtype.sew / 4)
+unfolding classes.row_of
+source-quarter i c facts = (facts.sources.vs2 (c.vtype.sew / 4) refl).width
+
+-- ---- instructions whose first operand is twice as wide
+
+half-legal : (i : VInstr) (c : Cfg) → IsTrue (is_vill_or_supported c.vtype) → is_legal i c.vtype c.vstart ≡ true → class_of i.op ≡ narrowing → HalfLegal i c
+unfolding classes.row_of
+half-legal i c setting legal class =
+    let facts = legal_group_law narrowing i c.vtype c.vstart setting legal class c.vtype.sew refl in
+    record {
+      written = facts;
+      source = facts.sources.vs2 (2 * c.vtype.sew) refl;
+      second = λ is. facts.sources.vs1 c.vtype.sew is refl;
+      there = halves-there c.vtype setting facts.vill;
+    }
+
+-- twice as wide an element has at most 32 bits
+half-narrow : (w : ℕ) → IsElementWidth w → IsElementWidth (2 * w) → (w ≡ 8) ⊎ (w ≡ 16)
+half-narrow w (inl is) wide = inl is
+half-narrow w (inr (inl is)) wide = inr is
+half-narrow w (inr (inr is)) (inl x) = absurd (omega (arith, is, x))
+half-narrow w (inr (inr is)) (inr (inl x)) = absurd (omega (arith, is, x))
+half-narrow w (inr (inr is)) (inr (inr x)) = absurd (omega (arith, is, x))
+
+half-built : (w : ℕ) → (w ≡ 8) ⊎ (w ≡ 16) → is_wide (2 * w) ≡ true
+half-built w (inl is) = rw is refl
+half-built w (inr is) = rw is refl
+
+pub half-wide : {w : ℕ} → (w ≡ 8) ⊎ (w ≡ 16) → IsElementWidth w
+half-wide (inl is) = inl is
+half-wide (inr is) = inr (inl is)
+
+half-second : (i : VInstr) (c : Cfg) (form : Form) (g h : ℕ) → IsElementWidth c.vtype.sew → g < registers_for c.vtype c.vtype.sew → h < 2 → (form ≡ V → i.vs1 + registers_for c.vtype c.vtype.sew ≤ 32)
+    → IsOperandRow (row_of (half_in_vs1 form c.vtype.sew i.vs1) (2 * g + h)) × IsLayable (half_in_vs1 form c.vtype.sew i.vs1) (2 * c.vtype.sew) (2 * g + h)
+half-second i c V g h wide inside first room =
+    let all : i.vs1 + registers_for c.vtype c.vtype.sew ≤ 32 = room refl in
+    let q : (2 * g + h) / 2 ≡ g = omega arith in
+    let place : i.vs1 + (2 * g + h) / 2 < 32 = rw q (omega arith) in
+    (inr (inr (inr (inl refl))), (place, wide, omega arith, refl))
+half-second i c X g h wide inside first room = (inr (inr (inl refl)), tt)
+half-second i c I g h wide inside first room = (inr (inr (inl refl)), tt)
+
+half-planned : (r : Recipe) (i : VInstr) (c : Cfg) → HalfLegal i c → HalfPlans r i c
+half-planned r i c legal =
+    let facts = legal.written in
+    let there = legal.there in
+    let wide : registers_for c.vtype (2 * c.vtype.sew) ≤ 32 = let room = legal.source.place.room in omega arith in
+    record {
+      narrow = half-narrow c.vtype.sew facts.sew legal.source.width;
+      few = facts.place.few;
+      placed = λ g inside. record {
+        vd = let room : i.vd + registers_for c.vtype c.vtype.sew ≤ 32 = facts.place.room in omega arith;
+        wide = half-built c.vtype.sew (half-narrow c.vtype.sew facts.sew legal.source.width);
+        a = λ h first. let room : i.vs2 + registers_for c.vtype (2 * c.vtype.sew) ≤ 32 = legal.source.place.room in omega (arith, there.inside g h inside first);
+        b = λ h first. let few : half_count c.vtype ≤ 2 = two c.vtype in half-second i c i.form g h facts.sew inside (omega arith) (λ is. (legal.second is).place.room);
+      };
+    }
+  where
+    two : (vt : Vtype) → half_count vt ≤ 2
+    two vt = elim (nat_lt vt.lmul8 8) as (λ b. cond b 1 2 ≤ 2) [ true ↦ omega arith | false ↦ omega arith ]
 
 -- ---- lists
 
-ignoring : (order : Order) (o : Operation) → Ignores order o → order ≡ Second → IgnoresFirst o
-ignoring Second o h is = h
-ignoring _ o h is = cc
-
 -- a list that computes the operation's value as it takes the operands
-lists-compute : (order : Order) (o : Operation) (i : VInstr) (c : Cfg) (list : Listed) (g : ℕ) → makes_bits list ≡ false → takes_row list ≡ reads_mask i o
-    → ((a b d : ℕ) (m : Bool) → value_of list c.vtype.sew a b d m ≡ value_by order o c.vtype.sew c.vxrm a b d (reads_mask i o && m))
-    → Computes list c.vtype.sew (row_of (operands_in order i).a g) (row_of (operands_in order i).b g) (row_of (operands_in order i).addend g) (i.vd + g)
-    → Realises c.vtype.sew (i.vd + g) (reads_mask i o)
-    (λ n m. value_in order i c o (n (row_of (operands_in order i).a g)) (n (row_of (operands_in order i).b g)) (n (row_of (operands_in order i).addend g)) m)
-    (list_of list c.vtype.sew (row_of (operands_in order i).a g) (row_of (operands_in order i).b g) (row_of (operands_in order i).addend g) (i.vd + g))
+lists-compute : (order : Order) (o : Operation) (i : VInstr) (c : Cfg) (list : Listed) (w ra rb rd to : ℕ) → w ≡ width_in order c.vtype.sew → makes_bits list ≡ false → takes_row list ≡ reads_mask i o
+    → ((a b d : ℕ) (m : Bool) → value_of list w a b d m ≡ value_by order o w c.vxrm a b d (reads_mask i o && m))
+    → Computes list w ra rb rd to
+    → Realises w to (reads_mask i o) (λ n m. value_in order i c o (n ra) (n rb) (n rd) m) (list_of list w ra rb rd to)
 unfolding Computes
-lists-compute Straight o i c list g bits takes same h = realises-same _ _ _ _ _ _ (λ n m small. rw (same _ _ _ m) refl) (rw (bits, takes) at h)
-lists-compute Reversed o i c list g bits takes same h = realises-same _ _ _ _ _ _ (λ n m small. rw (same _ _ _ m) refl) (rw (bits, takes) at h)
-lists-compute Exchanged o i c list g bits takes same h = realises-same _ _ _ _ _ _ (λ n m small. rw (same _ _ _ m) refl) (rw (bits, takes) at h)
-lists-compute Second o i c list g bits takes same h = realises-same _ _ _ _ _ _ (λ n m small. rw (same _ _ _ m) refl) (rw (bits, takes) at h)
+lists-compute order o i c list w ra rb rd to wide bits takes same h = realises-same _ _ _ _ _ _ (λ n m small. rw (sym wide, same _ _ _ m) refl) (rw (bits, takes) at h)
+
+-- a list that leaves a value leaves each that is the same
+leaves-same : (w row : ℕ) (work : List ℕ) (u v : (ℕ → ℕ) → ℕ) (ops : List MicroOp) → ((n : ℕ → ℕ) → u n ≡ v n) → LeavesValue w row work u ops → LeavesValue w row work v ops
+leaves-same w row work u v ops same leaves = subst (λ (f : (ℕ → ℕ) → ℕ). LeavesValue w row work f ops) (λ z n. same n z) leaves
+
+-- no row up to that of the scalar is one that shifts work in
+spared : (q : ℕ) → q ≤ scalar_row → is_among shift_rows q ≡ false
+spared q small = rw (ne_eqb q 49 (omega arith), ne_eqb q 37 (omega arith), ne_eqb q 40 (omega arith), ne_eqb q 38 (omega arith), ne_eqb q 39 (omega arith)) refl
 
 -- no element is clipped where the operation clips none
 clips-no-element : (c : Cfg) (e : Elementwise) (v : List (List ℕ)) → ((k : ℕ) → e.clipped v k ≡ false) → (n : ℕ) → clips_below c e v n ≡ false
@@ -171,22 +307,31 @@ module _ (r : Recipe) (o : Operation) (i : VInstr) (c : Cfg) (x : ℕ) (f : Fits
   takes : r.takes_mask ≡ o.takes_mask
   takes = ap (λ (t : Traits). t.takes_mask) f.same
 
-  signed : r.signed ≡ o.signed_immediate
-  signed = ap (λ (t : Traits). t.signed) f.same
+  signs : r.signs ≡ signs_of o
+  signs = ap (λ (t : Traits). t.signs) f.same
 
-  class-is : class_of i.op ≡ cond (makes_bits r.masked) compare (class_in r.order)
+  class-is : class_of i.op ≡ cond (makes_bits r.masked) compare (cond (makes_halves r.masked) narrowing (class_in r.order))
   class-is = ap (λ (t : Traits). t.class) f.same
 
-  same-bits : makes_bits r.plain ≡ makes_bits r.masked
-  same-bits = ap (λ (t : Traits). t.bits) f.same
-
-  -- the list that the instruction takes makes bits where its recipe does
-  pub bits-for : makes_bits (list_for r i) ≡ makes_bits r.masked
-  bits-for = either (reads r i)
+  -- the list that the instruction takes is like those of its recipe
+  chosen : (P : Listed → Bool) → P r.plain ≡ P r.masked → P (list_for r i) ≡ P r.masked
+  chosen P same = either (reads r i)
     where
-      either : (b : Bool) → makes_bits (cond b r.masked r.plain) ≡ makes_bits r.masked
+      either : (b : Bool) → P (cond b r.masked r.plain) ≡ P r.masked
       either true = refl
-      either false = same-bits
+      either false = same
+
+  pub bits-for : makes_bits (list_for r i) ≡ makes_bits r.masked
+  bits-for = chosen makes_bits (ap (λ (t : Traits). t.bits) f.same)
+
+  pub halves-for : makes_halves (list_for r i) ≡ makes_halves r.masked
+  halves-for = chosen makes_halves (ap (λ (t : Traits). t.halves) f.same)
+
+  laid-for : takes_laid (list_for r i) ≡ takes_one_laid r.order
+  laid-for = chosen takes_laid (ap (λ (t : Traits). t.plain_laid) f.same ∙ sym (ap (λ (t : Traits). t.masked_laid) f.same)) ∙ ap (λ (t : Traits). t.masked_laid) f.same
+
+  free-for : cond (has_wide_rows r.order) (uses_wide_rows (list_for r i)) false ≡ false
+  free-for = ap (λ (b : Bool). cond (has_wide_rows r.order) b false) (chosen uses_wide_rows (ap (λ (t : Traits). t.uses_wide) f.same)) ∙ ap (λ (t : Traits). t.clashes) f.same
 
   -- it takes the mask where the instruction reads it
   takes-for : takes_row (list_for r i) ≡ reads_mask i o
@@ -197,6 +342,10 @@ module _ (r : Recipe) (o : Operation) (i : VInstr) (c : Cfg) (x : ℕ) (f : Fits
       either true false is = ap (λ (t : Traits). t.plain) f.same
       either false c is = ap (λ (t : Traits). t.plain) f.same
 
+  -- whether the mask is an operand
+  pub reads-for : reads r i ≡ reads_mask i o
+  reads-for = rw takes refl
+
   -- the program marks no element as clipped, and the operation clips none
   unclipped : (v : List (List ℕ)) → clips_elements c (on_elements i c x o) v ≡ false
   unfolding elements_at
@@ -205,11 +354,8 @@ module _ (r : Recipe) (o : Operation) (i : VInstr) (c : Cfg) (x : ℕ) (f : Fits
   -- ---- results that are elements
 
   module _ (numbers : makes_bits r.masked ≡ false) where
-    class : class_of i.op ≡ class_in r.order
-    class = class-is ∙ rw numbers refl
-
-    value-for : (a b d : ℕ) (m : Bool) → value_of (list_for r i) c.vtype.sew a b d m ≡ value_by r.order o c.vtype.sew c.vxrm a b d (reads_mask i o && m)
-    value-for a b d m = either (reads r i) ∙ rw takes refl
+    value-for : (w a b d : ℕ) (m : Bool) → value_of (list_for r i) w a b d m ≡ value_by r.order o w c.vxrm a b d (reads_mask i o && m)
+    value-for w a b d m = either (reads r i) ∙ rw takes refl
       where
         means : Means false r o
         means = rw numbers at f.means
@@ -217,39 +363,100 @@ module _ (r : Recipe) (o : Operation) (i : VInstr) (c : Cfg) (x : ℕ) (f : Fits
         unmasked : Unmasked false r.plain r.masked
         unmasked = rw numbers at f.unmasked
 
-        either : (t : Bool) → value_of (cond t r.masked r.plain) c.vtype.sew a b d m ≡ value_by r.order o c.vtype.sew c.vxrm a b d (t && m)
-        either true = means c.vtype.sew c.vxrm a b d m
-        either false = unmasked c.vtype.sew a b d m ∙ means c.vtype.sew c.vxrm a b d false
+        either : (t : Bool) → value_of (cond t r.masked r.plain) w a b d m ≡ value_by r.order o w c.vxrm a b d (t && m)
+        either true = means w c.vxrm a b d m
+        either false = unmasked w a b d m ∙ means w c.vxrm a b d false
 
-    computed : ((g : ℕ) → g < group_count c.vtype → IsMade r i c g)
-        → AllCompute c.vtype.sew i.vd (group_count c.vtype) (reads_mask i o) (operands_in r.order i) (value_in r.order i c o) (kind_list r i c)
-    computed made g inside = lists-compute r.order o i c (list_for r i) g (bits-for ∙ numbers) takes-for value-for (made g inside).computes
+    module _ (whole : makes_halves r.masked ≡ false) where
+      pub class : class_of i.op ≡ class_in r.order
+      class = class-is ∙ rw (numbers, whole) refl
 
-    -- the program as it is written
-    module _ (wide : IsElementWidth c.vtype.sew) where
-      abbrev shape : Shape
-      shape = shape_in r.order i c x o
+      computed : ((g : ℕ) → g < count_of r c → IsMade r i c g)
+          → AllCompute (width_in r.order c.vtype.sew) i.vd (count_in r.order c.vtype) (reads_mask i o) (operands_in r.order (signs_of o) i c.vtype.sew) (value_in r.order i c o) (kind_list r i c)
+      computed made g inside =
+          subst
+          (λ (s : Signs). Realises (width_in r.order c.vtype.sew) (i.vd + g) (reads_mask i o)
+          (λ n m. value_in r.order i c o (n (row_of (operands_in r.order s i c.vtype.sew).a g)) (n (row_of (operands_in r.order s i c.vtype.sew).b g)) (n ((operands_in r.order s i c.vtype.sew).addend + g)) m)
+          (kind_list r i c g))
+          signs
+          (lists-compute r.order o i c (list_for r i) (width_of r c) _ _ _ (i.vd + g) refl (bits-for ∙ numbers) takes-for (value-for (width_of r c)) (made g inside).computes)
 
-      one : (g : ℕ) → one_register shape (usual_bounds shape) g (kind_list r i c g) ≡ register_list r i c g
-      unfolding one_register register_list shape_in elements_in elements_at
-      one g = rw (takes, no-bit c.vtype.sew wide) refl
+      -- the program as it is written
+      module _ (wide : IsElementWidth (width_of r c)) where
+        abbrev shape : Shape
+        shape = shape_in r.order i c x o
 
-      first : (g : ℕ) → first_registers shape (usual_bounds shape) (kind_list r i c) g ≡ registers_list r i c g
-      unfolding first_registers registers_list
-      first zero = refl
-      first (suc g) = rw (first g, one g) refl
+        one : (g : ℕ) → one_register shape (usual_bounds shape) g (body_in r.order i c o (kind_list r i c) g) ≡ register_list r i c g
+        unfolding one_register register_list shape_in elements_in elements_at
+        one g = rw (takes, signs, no-bit (width_of r c) wide) refl
 
-      pub elements-list : element_program r i c x ≡ program_in r.order i c x o (kind_list r i c)
-      unfolding program_in shape_in elements_in program
-      elements-list =
-          ap (λ (b : Bool). scalar_list b i c x ++ registers_list r i c (group_count c.vtype)) signed
-          ∙ sym (ap (λ (xs : List MicroOp). scalar_list o.signed_immediate i c x ++ xs) (first (group_count c.vtype)))
+        first : (g : ℕ) → first_registers shape (usual_bounds shape) (body_in r.order i c o (kind_list r i c)) g ≡ registers_list r i c g
+        unfolding first_registers registers_list
+        first zero = refl
+        first (suc g) = rw (first g, one g) refl
+
+        pub elements-list : element_program r i c x ≡ program_in r.order i c x o (kind_list r i c)
+        unfolding program_in shape_in elements_in program
+        elements-list =
+            ap (λ (signs : Signs). scalar_list i (width_of r c) (scalar_of r.order signs i c.vtype.sew x) ++ registers_list r i c (count_of r c)) signs
+            ∙ sym (ap (λ (xs : List MicroOp). scalar_list i (width_of r c) (scalar_of r.order (signs_of o) i c.vtype.sew x) ++ xs) (first (count_of r c)))
+
+    -- ---- results that are half as wide as the first operand
+
+    module _ (halves : makes_halves r.masked ≡ true) where
+      pub half-class : class_of i.op ≡ narrowing
+      half-class = class-is ∙ rw (numbers, halves) refl
+
+      of-halves : IsOfHalves o × (r.order ≡ Straight)
+      of-halves = rw halves at f.halves
+
+      half-value : (w a b : ℕ) → value_of (list_for r i) w a b 0 false ≡ o.value w c.vxrm a b 0 false
+      half-value w a b =
+          value-for w a b 0 false
+          ∙ ap (λ (order : Order). value_by order o w c.vxrm a b 0 (reads_mask i o && false)) of-halves.1
+          ∙ of-halves.0.ignores w c.vxrm a b (cond o.takes_old 0 0) (reads_mask i o && false)
+
+      leaves-all : ((g : ℕ) → g < registers_for c.vtype c.vtype.sew → IsHalfMade r i c g) → AllLeave (half_shape i c x o) (half_operands i c.vtype.sew) (half_value_in c o) (wide_lists r i c) (half_count c.vtype)
+      unfolding half_shape half_elements elements_at
+      leaves-all made = record {
+        work = shift_rows;
+        spares = spared;
+        spares_halves = refl;
+        leaves = λ g h inside first. leaves-same (2 * c.vtype.sew) (shifted_row (log2 (2 * c.vtype.sew))) shift_rows _ _ _ (λ n. half-value c.vtype.sew _ _) ((made g inside).leaves h first);
+      }
+
+      -- the program as it is written
+      module _ (wide : IsElementWidth c.vtype.sew) where
+        abbrev half_shape_of : Shape
+        half_shape_of = half_shape i c x o
+
+        one-half : (g : ℕ) → one_register half_shape_of (usual_bounds half_shape_of) g (half_body i c x o (wide_lists r i c) g) ≡ half_register_list r i c g
+        unfolding one_register half_register_list half_shape half_elements elements_at
+        one-half g = rw (takes, no-bit c.vtype.sew wide) refl
+
+        first-half : (g : ℕ) → first_registers half_shape_of (usual_bounds half_shape_of) (half_body i c x o (wide_lists r i c)) g ≡ half_registers_list r i c g
+        unfolding first_registers half_registers_list
+        first-half zero = refl
+        first-half (suc g) = rw (first-half g, one-half g) refl
+
+        pub halves-list : half_program r i c x ≡ half_program_in i c x o (wide_lists r i c)
+        unfolding half_program_in half_shape half_elements program
+        halves-list = sym (ap (λ (xs : List MicroOp). scalar_list i (2 * c.vtype.sew) (half_scalar i c.vtype.sew x) ++ xs) (first-half (registers_for c.vtype c.vtype.sew)))
 
   -- ---- results that are bits of a mask
 
   module _ (bits : makes_bits r.masked ≡ true) where
     mask-class : class_of i.op ≡ compare
     mask-class = class-is ∙ rw bits refl
+
+    order-is : r.order ≡ Straight
+    order-is = sym (ap (λ (b : Bool). cond b r.order Straight) bits) ∙ ap (λ (t : Traits). t.order_of_bits) f.same
+
+    pub mask-width : width_of r c ≡ c.vtype.sew
+    mask-width = rw order-is refl
+
+    mask-laid : takes_laid (list_for r i) ≡ false
+    mask-laid = laid-for ∙ rw order-is refl
 
     truth : IsTruth o (truth_of r.masked)
     truth = rw bits at f.means
@@ -286,8 +493,65 @@ module _ (r : Recipe) (o : Operation) (i : VInstr) (c : Cfg) (x : ℕ) (f : Fits
     pub bits-list : mask_program r i c x ≡ compare_program i c x o (truth_list r i c)
     unfolding compare_program compare_shape elements_at masks.mask_program
     bits-list =
-        ap (λ (b : Bool). scalar_list b i c x ++ (mask_registers_list r i c (group_count c.vtype) ++ mask_fill_list c i.vd)) signed
-        ∙ sym (ap (λ (xs : List MicroOp). scalar_list o.signed_immediate i c x ++ (xs ++ mask_fill_list c i.vd)) (first-mask (group_count c.vtype)))
+        ap (λ (order : Order). scalar_list i c.vtype.sew (scalar_of order r.signs i c.vtype.sew x) ++ (mask_registers_list r i c (group_count c.vtype) ++ mask_fill_list c i.vd)) order-is
+        ∙ ap (λ (signs : Signs). scalar_list i c.vtype.sew (scalar_of Straight signs i c.vtype.sew x) ++ (mask_registers_list r i c (group_count c.vtype) ++ mask_fill_list c i.vd)) signs
+        ∙ sym (ap (λ (xs : List MicroOp). scalar_list i c.vtype.sew (scalar_of Straight (signs_of o) i c.vtype.sew x) ++ (xs ++ mask_fill_list c i.vd)) (first-mask (group_count c.vtype)))
+
+-- ---- rows of an instruction
+
+-- the rows of the operands for register g, and that they can be laid out
+module _ (r : Recipe) (i : VInstr) (c : Cfg) (list : Listed) (sh : Shape) (value : Value) (columns : ℕ) where
+  rows-in : (order : Order) (by_sign : Signs) → takes_laid list ≡ takes_one_laid order → cond (has_wide_rows order) (uses_wide_rows list) false ≡ false → IsElementWidth c.vtype.sew
+      → (order ≡ Half → IsElementWidth (c.vtype.sew / 2)) → (order ≡ Quarter → IsElementWidth (c.vtype.sew / 4))
+      → IsPlain sh (operands_in order by_sign i c.vtype.sew) value columns → (g : ℕ) → g < sh.registers → Rows list (operands_in order by_sign i c.vtype.sew) sh.width g
+  rows-in Straight by_sign laid free sew half quarter p g inside = record {
+    fit = plain-rows list _ _ laid (inl (p.a g inside).0) (second-row sh i.form i.vs1 g inside p.b);
+    addend = (p.addend g inside).0;
+    first = tt;
+    second = second-layable sh i.form i.vs1 g;
+  }
+  rows-in Reversed by_sign laid free sew half quarter p g inside = record {
+    fit = plain-rows list _ _ laid (second-row sh i.form i.vs1 g inside p.a) (inl (p.b g inside).0);
+    addend = (p.addend g inside).0;
+    first = second-layable sh i.form i.vs1 g;
+    second = tt;
+  }
+  rows-in Second by_sign laid free sew half quarter p g inside = record {
+    fit = plain-rows list _ _ laid (inl (p.a g inside).0) (second-row sh i.form i.vs1 g inside p.b);
+    addend = (p.addend g inside).0;
+    first = tt;
+    second = second-layable sh i.form i.vs1 g;
+  }
+  rows-in Exchanged by_sign laid free sew half quarter p g inside = record {
+    fit = plain-rows list _ _ laid (inl (p.a g inside).0) (second-row sh i.form i.vs1 g inside p.b);
+    addend = (p.addend g inside).0;
+    first = tt;
+    second = second-layable sh i.form i.vs1 g;
+  }
+  rows-in Widening by_sign laid free sew half quarter p g inside = record {
+    fit = wide-rows list _ _ laid free (inr (inr (inr (inl refl)))) (wide-row i.form by_sign.b c.vtype.sew i.vs1 g);
+    addend = (p.addend g inside).0;
+    first = layable sh by_sign.a 2 c.vtype.sew i.vs2 left_row g sew inside p.a;
+    second = wide-layable sh i.form by_sign.b c.vtype.sew i.vs1 g sew inside p.b;
+  }
+  rows-in WideSource by_sign laid free sew half quarter p g inside = record {
+    fit = wide-rows list _ _ laid free (inl (p.a g inside).0) (wide-row i.form by_sign.b c.vtype.sew i.vs1 g);
+    addend = (p.addend g inside).0;
+    first = tt;
+    second = wide-layable sh i.form by_sign.b c.vtype.sew i.vs1 g sew inside p.b;
+  }
+  rows-in Half by_sign laid free sew half quarter p g inside = record {
+    fit = laid-rows list _ laid (inl (p.b g inside).0);
+    addend = (p.addend g inside).0;
+    first = layable sh by_sign.a 2 (c.vtype.sew / 2) i.vs2 result_row g (half refl) inside p.a;
+    second = tt;
+  }
+  rows-in Quarter by_sign laid free sew half quarter p g inside = record {
+    fit = laid-rows list _ laid (inl (p.b g inside).0);
+    addend = (p.addend g inside).0;
+    first = layable sh by_sign.a 4 (c.vtype.sew / 4) i.vs2 result_row g (quarter refl) inside p.a;
+    second = tt;
+  }
 
 -- ---- a legal instruction
 
@@ -298,12 +562,6 @@ pub record Fine (r : Recipe) (i : VInstr) (c : Cfg) (x : ℕ) : Type 0 where
   pub range : AllInRange (c.vlen / 32) (program_by r i c x)
 
 module _ (r : Recipe) (o : Operation) (i : VInstr) (c : Cfg) (x : ℕ) (f : Fits i.op r o) (valid : IsTrue (is_valid c)) (legal : is_legal i c.vtype c.vstart ≡ true) where
-  facts-in : (order : Order) → class_of i.op ≡ class_in order → Facts order i c
-  facts-in Straight class = legal_plain_law i c.vtype c.vstart (valid-setting c valid) legal class
-  facts-in Reversed class = legal_plain_law i c.vtype c.vstart (valid-setting c valid) legal class
-  facts-in Exchanged class = legal_plain_law i c.vtype c.vstart (valid-setting c valid) legal class
-  facts-in Second class = legal_move_law i c.vtype c.vstart (valid-setting c valid) legal class
-
   least : 32 ≤ c.vlen
   least = vlen_from c.vlen (valid-length c valid)
 
@@ -313,23 +571,39 @@ module _ (r : Recipe) (o : Operation) (i : VInstr) (c : Cfg) (x : ℕ) (f : Fits
   runs : (s : Slices) → c.vlen ≡ 32 * s.columns → i.vs1 < 32 → Runs i c s
   runs s long small = record { setting = valid-setting c valid; legal = legal; long = long; some = let l = least in omega arith; immediate = small }
 
-  pub plans : makes_bits r.masked ≡ false → Plans r i c
-  plans numbers =
-      let facts = facts-in r.order (class r o i c x f numbers) in
-      let groups = groups-in r.order i c facts in
-      record {
-        sew = groups.sew;
-        few = groups.few;
-        placed = λ g inside. let rows = rows-in r.order i c facts g inside in record {
-          vd = let room : i.vd + group_count c.vtype ≤ 32 = groups.room in omega arith;
-          a = operand-row _ rows.a;
-          b = operand-row _ rows.b;
-          addend = rows.addend;
-          division = division-rows (list_for r i) _ _ rows.a rows.b;
-        };
-      }
+  -- ---- what legality says
 
-  pub mask-plans : makes_bits r.masked ≡ true → MaskPlans i c
+  pub plans : makes_bits r.masked ≡ false → makes_halves r.masked ≡ false → Plans r i c
+  unfolding shape_in elements_in elements_at
+  plans numbers unhalved =
+      let is = class r o i c x f numbers unhalved in
+      let facts = facts-of r.order i c (valid-setting c valid) legal is in
+      let plain = is-plain r.order o i c x (c.vlen / 32) (valid-setting c valid) whole facts in
+      let signed : r.signs ≡ signs_of o = signs r o i c x f in
+      record {
+        sew = facts.sew;
+        width = facts.width;
+        few = facts.place.few;
+        placed = λ g inside.
+            let rows = rows-in r i c (list_for r i) (shape_in r.order i c x o) (value_in r.order i c o) (c.vlen / 32) r.order (signs_of o) (laid-for r o i c x f) (free-for r o i c x f) facts.sew (half-width facts) (quarter-width facts) plain g inside in
+            record {
+              vd = let room : i.vd + count_in r.order c.vtype ≤ 32 = facts.place.room in omega arith;
+              a = rw signed (fits-small _ _ _ rows.fit).0;
+              b = rw signed (fits-small _ _ _ rows.fit).1;
+              rows = rw signed rows.fit;
+              addend = rw signed rows.addend;
+              first = rw signed rows.first;
+              second = rw signed rows.second;
+            };
+      }
+    where
+      half-width : GroupWritten (class_in r.order) i c.vtype (width_in r.order c.vtype.sew) → r.order ≡ Half → IsElementWidth (c.vtype.sew / 2)
+      half-width facts is = source-half i c (subst (λ (order : Order). GroupWritten (class_in order) i c.vtype (width_in order c.vtype.sew)) is facts)
+
+      quarter-width : GroupWritten (class_in r.order) i c.vtype (width_in r.order c.vtype.sew) → r.order ≡ Quarter → IsElementWidth (c.vtype.sew / 4)
+      quarter-width facts is = source-quarter i c (subst (λ (order : Order). GroupWritten (class_in order) i c.vtype (width_in order c.vtype.sew)) is facts)
+
+  pub mask-plans : makes_bits r.masked ≡ true → MaskPlans r i c
   mask-plans bits =
       let groups : MaskGroups i c.vtype = legal_compare_law i c.vtype c.vstart (valid-setting c valid) legal (mask-class r o i c x f bits) in
       record {
@@ -339,37 +613,51 @@ module _ (r : Recipe) (o : Operation) (i : VInstr) (c : Cfg) (x : ℕ) (f : Fits
         placed = λ g inside.
             let room : i.vs2 + group_count c.vtype ≤ 32 = groups.vs2.0 in
             let first : IsSignedRow (row_of (compare_operands i).a g) = inl (omega arith) in
-            let second = second-row i.form i.vs1 (group_count c.vtype) g inside (λ is. (groups.vs1 is).0) in
+            let second = compared-row i.form i.vs1 (group_count c.vtype) g inside (λ is. (groups.vs1 is).0) in
             record {
               vd = groups.room;
-              a = operand-row _ first;
-              b = operand-row _ second;
-              division = λ list. division-rows list _ _ first second;
+              a = operand-small _ (operand-row _ first);
+              b = operand-small _ (operand-row _ second);
+              rows = plain-rows (list_for r i) _ _ (mask-laid r o i c x f bits) first second;
             };
       }
 
-  -- SEW is one of the widths
-  pub wide : IsElementWidth c.vtype.sew
-  wide =
-      ⊎_elim
-      (λ (bits : makes_bits r.masked ≡ true). (mask-plans bits).sew)
-      (λ (numbers : makes_bits r.masked ≡ false). (plans numbers).sew)
-      (cases_Bool (makes_bits r.masked))
+  pub half-plans : makes_bits r.masked ≡ false → makes_halves r.masked ≡ true → HalfPlans r i c
+  half-plans numbers halves = half-planned r i c (half-legal i c (valid-setting c valid) legal (half-class r o i c x f numbers halves))
 
-  -- a program of elements leaves what the instruction means, and costs what it should
-  pub elements-realised : (numbers : makes_bits r.masked ≡ false) → ((g : ℕ) → g < group_count c.vtype → IsMade r i c g) → i.vs1 < 32 → (s : Slices) → c.vlen ≡ 32 * s.columns
+  -- ---- programs of elements
+
+  pub elements-realised : (numbers : makes_bits r.masked ≡ false) (unhalved : makes_halves r.masked ≡ false) → ((g : ℕ) → g < count_of r c → IsMade r i c g) → i.vs1 < 32 → (s : Slices) → c.vlen ≡ 32 * s.columns
       → registers_of (replay (element_program r i c x) s) ≡ registers_after c (on_elements i c x o) (registers_of s)
-  elements-realised numbers made small s long =
-      rw (elements-list r o i c x f numbers wide)
-      (elements_meaning_law r.order o i c x (kind_list r i c) s (ignoring r.order o f.ignores) (runs s long small) (class r o i c x f numbers) (computed r o i c x f numbers made))
+  elements-realised numbers unhalved made small s long =
+      rw (elements-list r o i c x f numbers unhalved (plans numbers unhalved).width)
+      (elements_meaning_law r.order o i c x (kind_list r i c) s f.ignores (runs s long small) (class r o i c x f numbers unhalved) (computed r o i c x f numbers unhalved made))
 
-  pub elements-measured : (numbers : makes_bits r.masked ≡ false) → ((g : ℕ) → g < group_count c.vtype → IsMade r i c g) → i.vs1 < 32
-      → ElementsMeasured i c (blank (c.vlen / 32)) (reads_mask i o) (counts_of (list_for r i) c.vtype.sew) (length_of (list_for r i) c.vtype.sew) (element_program r i c x)
-  elements-measured numbers made small =
-      rw (elements-list r o i c x f numbers wide)
-      (elements_cost_law r.order o i c x (kind_list r i c) (blank (c.vlen / 32)) _ _ (runs (blank (c.vlen / 32)) whole small) (class r o i c x f numbers) (λ g inside. (made g inside).cost))
+  pub elements-measured : (numbers : makes_bits r.masked ≡ false) (unhalved : makes_halves r.masked ≡ false) → ((g : ℕ) → g < count_of r c → IsMade r i c g) → i.vs1 < 32
+      → ElementsMeasured i c (blank (c.vlen / 32)) (count_of r c) (reads_mask i o) (body_counts r i c) (body_length r i c) (element_program r i c x)
+  elements-measured numbers unhalved made small =
+      rw (elements-list r o i c x f numbers unhalved (plans numbers unhalved).width)
+      (elements_cost_law r.order o i c x (kind_list r i c) (blank (c.vlen / 32)) _ _ (runs (blank (c.vlen / 32)) whole small) (class r o i c x f numbers unhalved)
+      (λ g inside.
+      subst (λ (s : Signs). Measured (body_counts r i c) (body_length r i c) (with_operands (width_of r c) (operands_in r.order s i c.vtype.sew) (kind_list r i c) g)) (signs r o i c x f) (made g inside).cost))
 
-  -- so does one of the bits of a mask
+  -- ---- programs of halves
+
+  pub halves-realised : (numbers : makes_bits r.masked ≡ false) (halves : makes_halves r.masked ≡ true) → ((g : ℕ) → g < registers_for c.vtype c.vtype.sew → IsHalfMade r i c g) → i.vs1 < 32 → (s : Slices) → c.vlen ≡ 32 * s.columns
+      → registers_of (replay (half_program r i c x) s) ≡ registers_after c (on_elements i c x o) (registers_of s)
+  halves-realised numbers halves made small s long =
+      rw (halves-list r o i c x f numbers halves (half-wide (half-plans numbers halves).narrow))
+      (halves_meaning_law o i c x (wide_lists r i c) s (of-halves r o i c x f numbers halves).0 (runs s long small) (valid-short c valid) (half-class r o i c x f numbers halves) (leaves-all r o i c x f numbers halves made))
+
+  pub halves-measured : (numbers : makes_bits r.masked ≡ false) (halves : makes_halves r.masked ≡ true) → ((g : ℕ) → g < registers_for c.vtype c.vtype.sew → IsHalfMade r i c g) → i.vs1 < 32
+      → ElementsMeasured i c (blank (c.vlen / 32)) (registers_for c.vtype c.vtype.sew) (reads_mask i o) (half_counts r i c) (half_length r i c) (half_program r i c x)
+  unfolding half_shape half_elements elements_at
+  halves-measured numbers halves made small =
+      rw (halves-list r o i c x f numbers halves (half-wide (half-plans numbers halves).narrow))
+      (halves_cost_law o i c x (wide_lists r i c) (blank (c.vlen / 32)) _ _ (runs (blank (c.vlen / 32)) whole small) (half-class r o i c x f numbers halves) (λ g inside. (made g inside).cost))
+
+  -- ---- programs of the bits of a mask
+
   pub bits-realised : (bits : makes_bits r.masked ≡ true) → ((g : ℕ) → g < group_count c.vtype → IsMaskMade r i c g) → i.vs1 < 32 → (s : Slices) → c.vlen ≡ 32 * s.columns
       → registers_of (replay (mask_program r i c x) s) ≡ registers_after c (on_elements i c x o) (registers_of s)
   bits-realised bits made small s long =
@@ -392,43 +680,47 @@ module _ (r : Recipe) (o : Operation) (i : VInstr) (c : Cfg) (x : ℕ) (f : Fits
   realised ops keep is all s cleared long =
       rw is (all s long, clips-none ops s keep ∙ sym (unclipped r o i c x f (registers_of s)))
 
-  abbrev made_all : Type 0
-  made_all = (g : ℕ) → g < group_count c.vtype → IsMade r i c g
-
-  abbrev mask_made_all : Type 0
-  mask_made_all = (g : ℕ) → g < group_count c.vtype → IsMaskMade r i c g
-
-  pub elements-program : makes_bits r.masked ≡ false → program_by r i c x ≡ element_program r i c x
+  pub elements-program : makes_bits r.masked ≡ false → makes_halves r.masked ≡ false → program_by r i c x ≡ element_program r i c x
   unfolding program_by
-  elements-program numbers = rw (bits-for r o i c x f ∙ numbers) refl
+  elements-program numbers unhalved = rw (numbers, unhalved) refl
 
-  pub elements-fine : operation_for i.op ≡ Some o → makes_bits r.masked ≡ false → made_all → i.vs1 < 32 → Fine r i c x
+  pub elements-fine : operation_for i.op ≡ Some o → (numbers : makes_bits r.masked ≡ false) (unhalved : makes_halves r.masked ≡ false) → ((g : ℕ) → g < count_of r c → IsMade r i c g) → i.vs1 < 32 → Fine r i c x
   unfolding cost_by
-  elements-fine is numbers made small =
-      let m = elements-measured numbers made small in
+  elements-fine is numbers unhalved made small =
+      let m = elements-measured numbers unhalved made small in
       record {
-        realises = rw (elements-program numbers) (realised (element_program r i c x) (elements-keep r i c x) is (elements-realised numbers made small));
-        cost = rw (elements-program numbers) (m.cost ∙ sym (rw (bits-for r o i c x f ∙ numbers) refl));
-        range = rw (elements-program numbers) m.range;
+        realises = rw (elements-program numbers unhalved) (realised (element_program r i c x) (elements-keep r i c x) is (elements-realised numbers unhalved made small));
+        cost = rw (elements-program numbers unhalved) (m.cost ∙ sym (rw (numbers, unhalved) refl));
+        range = rw (elements-program numbers unhalved) m.range;
+      }
+
+  pub halves-program : makes_bits r.masked ≡ false → makes_halves r.masked ≡ true → program_by r i c x ≡ half_program r i c x
+  unfolding program_by
+  halves-program numbers halves = rw (numbers, halves) refl
+
+  pub halves-fine : operation_for i.op ≡ Some o → (numbers : makes_bits r.masked ≡ false) (halves : makes_halves r.masked ≡ true) → ((g : ℕ) → g < registers_for c.vtype c.vtype.sew → IsHalfMade r i c g) → i.vs1 < 32 → Fine r i c x
+  unfolding cost_by
+  halves-fine is numbers halves made small =
+      let m = halves-measured numbers halves made small in
+      record {
+        realises = rw (halves-program numbers halves) (realised (half_program r i c x) (halves-keep-program r i c x) is (halves-realised numbers halves made small));
+        cost = rw (halves-program numbers halves) (m.cost ∙ sym (rw (numbers, halves) refl));
+        range = rw (halves-program numbers halves) m.range;
       }
 
   pub bits-program : makes_bits r.masked ≡ true → program_by r i c x ≡ mask_program r i c x
   unfolding program_by
-  bits-program bits = rw (bits-for r o i c x f ∙ bits) refl
+  bits-program bits = rw bits refl
 
-  pub bits-fine : operation_for i.op ≡ Some o → makes_bits r.masked ≡ true → mask_made_all → i.vs1 < 32 → Fine r i c x
+  pub bits-fine : operation_for i.op ≡ Some o → (bits : makes_bits r.masked ≡ true) → ((g : ℕ) → g < group_count c.vtype → IsMaskMade r i c g) → i.vs1 < 32 → Fine r i c x
   unfolding cost_by
   bits-fine is bits made small =
       let m = bits-measured bits made small in
       record {
         realises = rw (bits-program bits) (realised (mask_program r i c x) (mask-keep r i c x) is (bits-realised bits made small));
-        cost = rw (bits-program bits) (m.cost ∙ sym (rw (bits-for r o i c x f ∙ bits) refl));
+        cost = rw (bits-program bits) (m.cost ∙ sym (rw bits refl));
         range = rw (bits-program bits) m.range;
       }
-
-  -- whether the mask is an operand
-  pub reads-for : reads r i ≡ reads_mask i o
-  reads-for = rw (takes r o i c x f) refl
 
 -- the program and the cost of an instruction whose operation has a recipe
 pub prog-is : (r : Recipe) (i : VInstr) (c : Cfg) (x : ℕ) → recipe_for i.op ≡ Some r → prog i c x ≡ program_by r i c x

@@ -1,24 +1,30 @@
 -- The program of an instruction, what it costs, and when a list realises an instruction.
-use Rattle.std.specs.Prelude.{◌≡◌, ◌<◌, ℕ, zero, suc, ◌+◌, ◌*◌, ◌/◌, Bool, true, false, cond, ◌&&◌, not, List, [], ◌∷◌, ◌++◌, Option, Some, None}
+use Rattle.std.specs.Prelude.{◌≡◌, ◌<◌, ℕ, zero, suc, ◌+◌, ◌-◌, ◌*◌, ◌/◌, Bool, true, false, cond, ◌&&◌, not, List, [], ◌∷◌, ◌++◌, Option, Some, None}
 use Rattle.std.specs.Option.{option_map_or}
 use Rattle.bit_laws.specs.Numbers.{low}
 use Rattle.bit_rows.specs.Slices.{Slices}
 use Rattle.cam_chain.specs.ChainValue.{no_counts}
 use Rattle.cam_chain.specs.declared.counts.Counts.{Counts}
 use Rattle.cam_chain.specs.Views.{registers_of}
-use Rattle.frame_laws.specs.Classes.Operands.{row_of}
+use Rattle.frame_laws.specs.Classes.Halved.{Pair, Lists, halves_row, halves_list}
+use Rattle.frame_laws.specs.Classes.Operands.{Operand, group, scalar, narrow, row_of}
+use Rattle.frame_laws.specs.Classes.Plain.{Operands, with_operands}
+use Rattle.frame_laws.specs.Costs.{counts_times}
 use Rattle.frame_meaning.specs.Costs.{cost_of}
 use Rattle.frame_meaning.specs.Masks.{compare_cost_of, compare_operands}
-use Rattle.frame_meaning.specs.Shapes.{has_scalar, scalar_of, operands_in}
-use Rattle.legal_groups.specs.Facts.{group_count}
+use Rattle.frame_meaning.specs.Halves.{half_count, half_operands, half_scalar}
+use Rattle.frame_meaning.specs.Shapes.{has_scalar, scalar_of, width_in, count_in, operands_in}
+use Rattle.gen_shift.specs.Laws.{LeavesValue}
+use Rattle.gen_shift.specs.Rows.{shifted_row, shift_rows}
+use Rattle.legal_groups.specs.Facts.{IsElementWidth, registers_for, group_count}
 use Rattle.mask_window.specs.Operations.{active_operation, free_operation}
-use Rattle.micro_ir.specs.Measures.{Measured}
-use Rattle.micro_ir.specs.Pieces.{splat, fill_step}
+use Rattle.micro_ir.specs.Measures.{counts, Measured}
+use Rattle.micro_ir.specs.Pieces.{splat, fill_step, commit}
 use Rattle.micro_ir.specs.Steps.{micros}
 use Rattle.micro_ir.specs.WorkRows.{IsOperandRow, active_row, mask_row, truth_row}
 use Rattle.micro_ir.specs.declared.op.MicroOp.{MicroOp}
 use Rattle.micro_ir.specs.declared.op.MicroOp.TheVariants.{Window, PackMask}
-use Rattle.micro_ir.specs.Replay.{replay, clips}
+use Rattle.micro_ir.specs.Replay.{replay, clips, counts_and}
 use Rattle.rvv_decode.specs.declared.instruction.OpiOp.{OpiOp}
 use Rattle.rvv_decode.specs.declared.instruction.OpiOp.TheVariants.{Vrgather, Vrgatherei16}
 use Rattle.rvv_decode.specs.declared.instruction.OpmOp.{OpmOp}
@@ -28,12 +34,14 @@ use Rattle.rvv_decode.specs.declared.instruction.Form.TheVariants.{V, X, I}
 use Rattle.rvv_decode.specs.declared.instruction.VInstr.{VInstr}
 use Rattle.rvv_decode.specs.declared.instruction.VOp.{VOp}
 use Rattle.rvv_decode.specs.declared.instruction.VOp.TheVariants.{Opi, Opm, Config, Memory}
+use Rattle.steer_net.specs.Moves.{is_wide}
 use Rattle.vtype_cfg.specs.declared.configuration.Cfg.{Cfg}
 use Rattle.rvv_meaning.specs.Elementwise.{is_ones, registers_after, clips as clips_elements}
+use Rattle.rvv_meaning.specs.Operations.{log2}
 use Rattle.rvv_meaning.specs.Vectors.{Left, elements, number, left_of}
 use Rattle.vec_exec.specs.declared.recipes.Listed.{Listed}
 use Rattle.vec_exec.specs.declared.recipes.Recipe.{Recipe}
-use Rattle.vec_exec.specs.Recipes.{recipe_for, makes_bits, HasDivisionRows, list_of, counts_of, length_of, Computes}
+use Rattle.vec_exec.specs.Recipes.{recipe_for, makes_bits, makes_halves, list_of, value_of, counts_of, length_of, FitsRows, Computes}
 
 -- whether an instruction is carried out by a program: not a gather by a vector of indices, a compression, an iota, a move
 -- to a scalar register, a configuration, a load or a store
@@ -73,21 +81,48 @@ masked r i = not r.takes_mask && not i.vm
 abbrev pub list_for : Recipe → VInstr → Listed
 list_for r i = cond (reads r i) r.masked r.plain
 
+-- ---- operands
+
+-- the width of the elements of the destination, and how many registers it takes
+abbrev pub width_of : Recipe → Cfg → ℕ
+width_of r c = width_in r.order c.vtype.sew
+
+abbrev pub count_of : Recipe → Cfg → ℕ
+count_of r c = count_in r.order c.vtype
+
+-- the operands as the list takes them, and those of the halves of a register
+abbrev pub operands_of : Recipe → VInstr → Cfg → Operands
+operands_of r i c = operands_in r.order r.signs i c.vtype.sew
+
+abbrev pub halves_of : Recipe → VInstr → Cfg → Pair
+halves_of r i c = half_operands i c.vtype.sew
+
+-- the searches, updates and passes that lay an operand out at w bits, and the number of these operations
+abbrev pub laid_counts : Operand → (w : ℕ) → Counts
+laid_counts (group r) w = no_counts
+laid_counts scalar w = no_counts
+laid_counts (narrow signed by n r row) w = cond signed (counts (w - n) (w - n) (w - n)) no_counts
+
+abbrev pub laid_length : Operand → (w : ℕ) → ℕ
+laid_length (group r) w = 0
+laid_length scalar w = 0
+laid_length (narrow signed by n r row) w = 1 + cond signed (3 * (w - n)) 0
+
 -- ---- the parts of a program
 
--- the operations that put the scalar into its row, where there is one
-abbrev pub scalar_list : (signed : Bool) → VInstr → Cfg → (scalar : ℕ) → List MicroOp
-scalar_list signed i c x = cond (has_scalar i.form) (micros c.vtype.sew (splat c.vtype.sew (scalar_of i c x signed))) []
+-- the operations that put a number into the scalar's row, at a width, where there is a scalar
+abbrev pub scalar_list : VInstr → (width x : ℕ) → List MicroOp
+scalar_list i width x = cond (has_scalar i.form) (micros width (splat width x)) []
 
 -- the operations that mark the elements of a register, and lay out their mask bits where the mask is an operand
-abbrev pub window_list : Cfg → (reads masked : Bool) → (first : ℕ) → List MicroOp
-window_list c reads masked first =
-    active_operation c c.vtype.sew first masked ∷ cond reads (Window mask_row c.vtype.sew first c.vstart c.vl true ∷ []) []
+abbrev pub window_list : Cfg → (width : ℕ) → (reads masked : Bool) → (first : ℕ) → List MicroOp
+window_list c width reads masked first =
+    active_operation c width first masked ∷ cond reads (Window mask_row width first c.vstart c.vl true ∷ []) []
 
 -- ones into the agnostic elements of a register, where agnostic elements become ones
-abbrev pub fill_list : Cfg → (first : ℕ) → (masked : Bool) → (to : ℕ) → List MicroOp
-fill_list c first masked to =
-    cond (is_ones c.policy) (free_operation c c.vtype.sew first masked c.vtype.vta ∷ micros c.vtype.sew (fill_step c.vtype.sew to ∷ [])) []
+abbrev pub fill_list : Cfg → (width first : ℕ) → (masked : Bool) → (to : ℕ) → List MicroOp
+fill_list c width first masked to =
+    cond (is_ones c.policy) (free_operation c width first masked c.vtype.vta ∷ micros width (fill_step width to ∷ [])) []
 
 -- the operation that marks the free bits of a mask, with the first register alone; and how many there are
 abbrev pub free_bits : Cfg → (masked : Bool) → (g : ℕ) → List MicroOp
@@ -104,28 +139,42 @@ mask_fill_list c to = cond (is_ones c.policy) (micros c.vtype.sew (fill_step c.v
 
 -- ---- the program
 
--- the list of register g of the destination, and that of register g of the operands of a mask
+-- the list of register g of the destination, that of register g of the operands of a mask, and that of register q of the
+-- operand of which each register has the elements of a half
 abbrev pub kind_list : Recipe → VInstr → Cfg → (g : ℕ) → List MicroOp
-kind_list r i c g = list_of (list_for r i) c.vtype.sew (row_of (operands_in r.order i).a g) (row_of (operands_in r.order i).b g) (row_of (operands_in r.order i).addend g) (i.vd + g)
+kind_list r i c g = list_of (list_for r i) (width_of r c) (row_of (operands_of r i c).a g) (row_of (operands_of r i c).b g) ((operands_of r i c).addend + g) (i.vd + g)
 
 abbrev pub truth_list : Recipe → VInstr → Cfg → (g : ℕ) → List MicroOp
 truth_list r i c g = list_of (list_for r i) c.vtype.sew (row_of (compare_operands i).a g) (row_of (compare_operands i).b g) i.vd i.vd
 
+abbrev pub wide_list : Recipe → VInstr → Cfg → (q : ℕ) → List MicroOp
+wide_list r i c q = list_of (list_for r i) c.vtype.sew ((halves_of r i c).a + q) (row_of (halves_of r i c).b q) i.vd i.vd
+
 module _ (r : Recipe) (i : VInstr) (c : Cfg) where
   -- the first element of register g of a group
-  abbrev pub first_in : (g : ℕ) → ℕ
-  first_in g = g * (c.vlen / c.vtype.sew)
+  abbrev pub first_in : (width g : ℕ) → ℕ
+  first_in width g = g * (c.vlen / width)
+
+  -- the kind's list with what lays its operands out; what it costs, and how long it is
+  abbrev pub body_list : (g : ℕ) → List MicroOp
+  body_list g = with_operands (width_of r c) (operands_of r i c) (kind_list r i c) g
+
+  abbrev pub body_counts : Counts
+  body_counts = counts_and (laid_counts (operands_of r i c).a (width_of r c)) (counts_and (laid_counts (operands_of r i c).b (width_of r c)) (counts_of (list_for r i) (width_of r c)))
+
+  abbrev pub body_length : ℕ
+  body_length = laid_length (operands_of r i c).a (width_of r c) + (laid_length (operands_of r i c).b (width_of r c) + length_of (list_for r i) (width_of r c))
 
   -- the operations on register g of the destination: those that mark its elements, the kind's, and the fill
   unfoldable pub register_list : (g : ℕ) → List MicroOp
   register_list g =
-      window_list c (reads r i) (masked r i) (first_in g)
-      ++ (kind_list r i c g
-      ++ fill_list c (first_in g) (masked r i) (i.vd + g))
+      window_list c (width_of r c) (reads r i) (masked r i) (first_in (width_of r c) g)
+      ++ (body_list g
+      ++ fill_list c (width_of r c) (first_in (width_of r c) g) (masked r i) (i.vd + g))
 
   -- how many these are
   abbrev pub register_length : ℕ
-  register_length = 1 + cond (reads r i) 1 0 + cond (is_ones c.policy) 3 0 + length_of (list_for r i) c.vtype.sew
+  register_length = 1 + cond (reads r i) 1 0 + cond (is_ones c.policy) 3 0 + body_length
 
   -- the operations on the first registers of the destination
   unfoldable pub registers_list : (count : ℕ) → List MicroOp
@@ -136,9 +185,9 @@ module _ (r : Recipe) (i : VInstr) (c : Cfg) where
   -- one that packs the truths
   unfoldable pub mask_register_list : (g : ℕ) → List MicroOp
   mask_register_list g =
-      window_list c (reads r i) (masked r i) (first_in g)
+      window_list c c.vtype.sew (reads r i) (masked r i) (first_in c.vtype.sew g)
       ++ (truth_list r i c g
-      ++ (free_bits c (masked r i) g ++ PackMask truth_row active_row i.vd c.vtype.sew (first_in g) ∷ []))
+      ++ (free_bits c (masked r i) g ++ PackMask truth_row active_row i.vd c.vtype.sew (first_in c.vtype.sew g) ∷ []))
 
   -- how many these are, but for the free bits
   abbrev pub mask_register_length : ℕ
@@ -148,19 +197,60 @@ module _ (r : Recipe) (i : VInstr) (c : Cfg) where
   mask_registers_list zero = []
   mask_registers_list (suc g) = mask_registers_list g ++ mask_register_list g
 
-  -- the program with a scalar: of results that are elements, and of results that are the bits of a mask
+  -- the lists of the halves of a register, and the row where each leaves what it computes
+  abbrev pub wide_lists : Lists
+  wide_lists = record { row = shifted_row (log2 (2 * c.vtype.sew)); body = wide_list r i c }
+
+  -- the operations on register g of a destination that is half as wide as its first operand: those that mark its elements,
+  -- those on its halves, and the fill
+  abbrev pub half_list_of : (g : ℕ) → List MicroOp
+  half_list_of g = halves_list c.vtype.sew (halves_of r i c) wide_lists g (half_count c.vtype) ++ micros c.vtype.sew (commit c.vtype.sew halves_row (i.vd + g))
+
+  unfoldable pub half_register_list : (g : ℕ) → List MicroOp
+  half_register_list g =
+      window_list c c.vtype.sew (reads r i) (masked r i) (first_in c.vtype.sew g)
+      ++ (half_list_of g
+      ++ fill_list c c.vtype.sew (first_in c.vtype.sew g) (masked r i) (i.vd + g))
+
+  -- what one half costs, and how many operations it has; and a register
+  abbrev pub one_half_counts : Counts
+  one_half_counts = counts_and (laid_counts (halves_of r i c).b (2 * c.vtype.sew)) (counts_of (list_for r i) c.vtype.sew)
+
+  abbrev pub one_half_length : ℕ
+  one_half_length = laid_length (halves_of r i c).b (2 * c.vtype.sew) + (length_of (list_for r i) c.vtype.sew + 1)
+
+  abbrev pub half_counts : Counts
+  half_counts = counts_and (counts_times (half_count c.vtype) one_half_counts) (counts 2 2 0)
+
+  abbrev pub half_length : ℕ
+  half_length = half_count c.vtype * one_half_length + 4
+
+  abbrev pub half_register_length : ℕ
+  half_register_length = 1 + cond (reads r i) 1 0 + cond (is_ones c.policy) 3 0 + half_length
+
+  unfoldable pub half_registers_list : (count : ℕ) → List MicroOp
+  half_registers_list zero = []
+  half_registers_list (suc g) = half_registers_list g ++ half_register_list g
+
+  -- the program with a scalar: of results that are elements, of results that are the bits of a mask, and of elements that are
+  -- half as wide as the first operand
   abbrev pub element_program : (scalar : ℕ) → List MicroOp
-  element_program x = scalar_list r.signed i c x ++ registers_list (group_count c.vtype)
+  element_program x = scalar_list i (width_of r c) (scalar_of r.order r.signs i c.vtype.sew x) ++ registers_list (count_of r c)
 
   abbrev pub mask_program : (scalar : ℕ) → List MicroOp
-  mask_program x = scalar_list r.signed i c x ++ (mask_registers_list (group_count c.vtype) ++ mask_fill_list c i.vd)
+  mask_program x = scalar_list i c.vtype.sew (scalar_of r.order r.signs i c.vtype.sew x) ++ (mask_registers_list (group_count c.vtype) ++ mask_fill_list c i.vd)
+
+  abbrev pub half_program : (scalar : ℕ) → List MicroOp
+  half_program x = scalar_list i (2 * c.vtype.sew) (half_scalar i c.vtype.sew x) ++ half_registers_list (registers_for c.vtype c.vtype.sew)
 
   unfoldable pub program_by : (scalar : ℕ) → List MicroOp
-  program_by x = cond (makes_bits (list_for r i)) (mask_program x) (element_program x)
+  program_by x = cond (makes_bits r.masked) (mask_program x) (cond (makes_halves r.masked) (half_program x) (element_program x))
 
   -- what it costs
   unfoldable pub cost_by : Counts
-  cost_by = cond (makes_bits (list_for r i)) (compare_cost_of i c (counts_of (list_for r i) c.vtype.sew)) (cost_of i c (counts_of (list_for r i) c.vtype.sew))
+  cost_by =
+      cond (makes_bits r.masked) (compare_cost_of i c (counts_of (list_for r i) c.vtype.sew))
+      (cond (makes_halves r.masked) (cost_of i c (registers_for c.vtype c.vtype.sew) half_counts) (cost_of i c (count_of r c) body_counts))
 
 -- the program of an instruction, of those that are built
 unfoldable pub prog : VInstr → Cfg → (scalar : ℕ) → List MicroOp
@@ -173,20 +263,35 @@ cost i c = option_map_or (λ r. cost_by r i c) (recipe_for i.op) no_counts
 
 -- ---- rows
 
+-- an operand can be laid out at w bits for register g: its register is there, and its elements are narrower
+abbrev pub IsLayable : Operand → (w g : ℕ) → Type 0
+IsLayable (group r) w g = Unit {0}
+IsLayable scalar w g = Unit {0}
+IsLayable (narrow signed by n r row) w g = (r + g / by < 32) × IsElementWidth n × (1 < by) × (by * n ≡ w)
+
 -- register g of the destination and the rows of its operands are there
-pub record IsPlaced (r : Recipe) (i : VInstr) (g : ℕ) : Type 0 where
+pub record IsPlaced (r : Recipe) (i : VInstr) (c : Cfg) (g : ℕ) : Type 0 where
   pub vd : i.vd + g < 32
-  pub a : IsOperandRow (row_of (operands_in r.order i).a g)
-  pub b : IsOperandRow (row_of (operands_in r.order i).b g)
-  pub addend : IsOperandRow (row_of (operands_in r.order i).addend g)
-  pub division : HasDivisionRows (list_for r i) (row_of (operands_in r.order i).a g) (row_of (operands_in r.order i).b g)
+  pub a : row_of (operands_of r i c).a g < 64
+  pub b : row_of (operands_of r i c).b g < 64
+  pub rows : FitsRows (list_for r i) (row_of (operands_of r i c).a g) (row_of (operands_of r i c).b g)
+  pub addend : (operands_of r i c).addend + g < 32
+  pub first : IsLayable (operands_of r i c).a (width_of r c) g
+  pub second : IsLayable (operands_of r i c).b (width_of r c) g
+
+-- register g of a destination, and those of its halves' operands
+pub record IsHalfPlaced (r : Recipe) (i : VInstr) (c : Cfg) (g : ℕ) : Type 0 where
+  pub vd : i.vd + g < 32
+  pub wide : is_wide (2 * c.vtype.sew) ≡ true
+  pub a : (h : ℕ) → h < half_count c.vtype → (halves_of r i c).a + (2 * g + h) < 32
+  pub b : (h : ℕ) → h < half_count c.vtype → IsOperandRow (row_of (halves_of r i c).b (2 * g + h)) × IsLayable (halves_of r i c).b (2 * c.vtype.sew) (2 * g + h)
 
 -- the rows of the operands of a mask are there
-pub record IsMaskPlaced (i : VInstr) (g : ℕ) : Type 0 where
+pub record IsMaskPlaced (r : Recipe) (i : VInstr) (g : ℕ) : Type 0 where
   pub vd : i.vd < 32
-  pub a : IsOperandRow (row_of (compare_operands i).a g)
-  pub b : IsOperandRow (row_of (compare_operands i).b g)
-  pub division : (list : Listed) → HasDivisionRows list (row_of (compare_operands i).a g) (row_of (compare_operands i).b g)
+  pub a : row_of (compare_operands i).a g < 64
+  pub b : row_of (compare_operands i).b g < 64
+  pub rows : FitsRows (list_for r i) (row_of (compare_operands i).a g) (row_of (compare_operands i).b g)
 
 -- ---- what a program is for
 
@@ -206,10 +311,22 @@ unfoldable pub RealisesInstruction : VInstr → Cfg → (scalar : ℕ) → List 
 RealisesInstruction i c x ops =
     (s : Slices) → s.num ≡ 0 → c.vlen ≡ 32 * s.columns → LeavesMeaning c (registers_of s) (left_of i c x (registers_of s)) (replay ops s) (clips ops s)
 
--- What the list of register g computes, from the rows of its operands, and what it costs.
+-- What the list of register g computes, from the rows of its operands, and what it costs with what lays these out.
 pub record IsMade (r : Recipe) (i : VInstr) (c : Cfg) (g : ℕ) : Type 0 where
-  pub computes : Computes (list_for r i) c.vtype.sew (row_of (operands_in r.order i).a g) (row_of (operands_in r.order i).b g) (row_of (operands_in r.order i).addend g) (i.vd + g)
-  pub cost : Measured (counts_of (list_for r i) c.vtype.sew) (length_of (list_for r i) c.vtype.sew) (kind_list r i c g)
+  pub computes : Computes (list_for r i) (width_of r c) (row_of (operands_of r i c).a g) (row_of (operands_of r i c).b g) ((operands_of r i c).addend + g) (i.vd + g)
+  pub cost : Measured (body_counts r i c) (body_length r i c) (body_list r i c g)
+
+-- What the list of register q of an operand leaves, of which each register has the elements of a half; and what the operations
+-- on register g of the destination cost.
+abbrev pub LeavesHalf : Listed → (w a b : ℕ) → List MicroOp → Type 0
+LeavesHalf list w a b ops = LeavesValue (2 * w) (shifted_row (log2 (2 * w))) shift_rows (λ n. value_of list w (n a) (n b) 0 false) ops
+
+abbrev pub LeavesPart : Recipe → VInstr → Cfg → (g h : ℕ) → Type 0
+LeavesPart r i c g h = LeavesHalf (list_for r i) c.vtype.sew ((halves_of r i c).a + (2 * g + h)) (row_of (halves_of r i c).b (2 * g + h)) (wide_list r i c (2 * g + h))
+
+pub record IsHalfMade (r : Recipe) (i : VInstr) (c : Cfg) (g : ℕ) : Type 0 where
+  pub leaves : (h : ℕ) → h < half_count c.vtype → LeavesPart r i c g h
+  pub cost : Measured (half_counts r i c) (half_length r i c) (half_list_of r i c g)
 
 -- The same of a list that tells the truths of register g of the operands of a mask.
 pub record IsMaskMade (r : Recipe) (i : VInstr) (c : Cfg) (g : ℕ) : Type 0 where

@@ -1,5 +1,5 @@
 -- The recipes of operations: which lists compute them, what these lists are, and what they cost.
-use Rattle.std.specs.Prelude.{ℕ, Bool, true, false, List, Option, Some, None}
+use Rattle.std.specs.Prelude.{◌≡◌, ◌*◌, ℕ, Bool, true, false, List, Option, Some, None}
 use Rattle.cam_chain.specs.declared.counts.Counts.{Counts}
 use Rattle.gen_arith.specs.Kinds.{sum_takes_mask, sum_value, sum_ops, sum_counts, sum_length, truth_takes_mask, truth_value, truth_ops, truth_counts, truth_length, choice_value, choice_ops, choice_counts, choice_length}
 use Rattle.gen_arith.specs.declared.kinds.Sum.TheVariants.{Add, Sub, Adc, Sbc}
@@ -13,35 +13,45 @@ use Rattle.gen_logic.specs.Values.{takes_mask, value_of as logic_value}
 use Rattle.gen_logic.specs.declared.kinds.Logic.TheVariants.{And, Or, Xor, Merge, First, Second}
 use Rattle.gen_mul.specs.Kinds.{product_value, product_ops, product_counts, product_length}
 use Rattle.gen_mul.specs.declared.kinds.Product.TheVariants.{Mul, Mulhu, Mulhsu, Mulh, Macc, Nmsac}
-use Rattle.gen_shift.specs.Kinds.{shift_value, shift_ops, shift_counts, shift_length}
+use Rattle.gen_shift.specs.Kinds.{shift_value, shift_ops, shift_counts, shift_length, raw_ops, raw_counts, raw_length}
 use Rattle.gen_shift.specs.declared.kinds.Shift.TheVariants.{Sll, Srl, Sra}
 use Rattle.micro_ir.specs.Kinds.{Realises, Tells}
+use Rattle.micro_ir.specs.Measures.{counts}
+use Rattle.micro_ir.specs.Pieces.{commit}
+use Rattle.micro_ir.specs.Steps.{micros}
+use Rattle.micro_ir.specs.WorkRows.{IsOperandRow, result_row}
 use Rattle.micro_ir.specs.declared.op.MicroOp.{MicroOp}
 use Rattle.micro_ir.specs.declared.place.Place.{Place}
-use Rattle.rvv_decode.specs.declared.instruction.OpiOp.TheVariants.{Vadd, Vsub, Vrsub, Vadc, Vsbc, Vmadc, Vmsbc, Vand, Vor, Vxor, Vsll, Vsrl, Vsra, Vmseq, Vmsne, Vmsltu, Vmslt, Vmsleu, Vmsle, Vmsgtu, Vmsgt, Vminu, Vmin, Vmaxu, Vmax, Vmerge, VmvV}
-use Rattle.rvv_decode.specs.declared.instruction.OpmOp.TheVariants.{Vdivu, Vdiv, Vremu, Vrem, Vmulhu, Vmul, Vmulhsu, Vmulh, Vmadd, Vnmsub, Vmacc, Vnmsac}
+use Rattle.rvv_decode.specs.declared.instruction.OpiOp.TheVariants.{Vadd, Vsub, Vrsub, Vadc, Vsbc, Vmadc, Vmsbc, Vand, Vor, Vxor, Vsll, Vsrl, Vsra, Vmseq, Vmsne, Vmsltu, Vmslt, Vmsleu, Vmsle, Vmsgtu, Vmsgt, Vminu, Vmin, Vmaxu, Vmax, Vmerge, VmvV, Vnsrl, Vnsra}
+use Rattle.rvv_decode.specs.declared.instruction.OpmOp.TheVariants.{Vdivu, Vdiv, Vremu, Vrem, Vmulhu, Vmul, Vmulhsu, Vmulh, Vmadd, Vnmsub, Vmacc, Vnmsac, VzextVf2, VzextVf4, VsextVf2, VsextVf4, Vwaddu, Vwadd, Vwsubu, Vwsub, VwadduW, VwaddW, VwsubuW, VwsubW}
 use Rattle.rvv_decode.specs.declared.instruction.VOp.{VOp}
 use Rattle.rvv_decode.specs.declared.instruction.VOp.TheVariants.{Opi, Opm}
 use Rattle.frame_meaning.specs.declared.Order.{Order}
-use Rattle.frame_meaning.specs.declared.Order.TheVariants.{Straight, Reversed, Second as SecondAlone, Exchanged}
+use Rattle.frame_meaning.specs.declared.Order.TheVariants.{Straight, Reversed, Second as SecondAlone, Exchanged, Widening, WideSource, Half, Quarter}
 use Rattle.rvv_meaning.specs.Operations.{log2}
 use Rattle.vec_exec.specs.declared.recipes.Listed.{Listed}
-use Rattle.vec_exec.specs.declared.recipes.Listed.TheVariants.{Bits, Sums, Truths, Choices, Shifts, Products, Divisions}
+use Rattle.vec_exec.specs.declared.recipes.Listed.TheVariants.{Bits, Sums, Truths, Choices, Shifts, Products, Divisions, Copies, Halves}
 use Rattle.vec_exec.specs.declared.recipes.Recipe.{Recipe}
 
--- one list, on two operands and an immediate with a sign or without; two lists, of which the second takes the mask as an
--- operand; and one list that takes the operands in another order
+-- one list, on operands that are as wide, or that are extended by zeros, and a signed immediate
 abbrev pub of_two : Listed → Recipe
-of_two list = record { plain = list; masked = list; takes_mask = false; order = Straight; signed = true }
+of_two list = record { plain = list; masked = list; takes_mask = false; order = Straight; signs = record { a = false; b = false; immediate = true } }
 
+-- the same where an immediate has no sign
 abbrev pub of_unsigned : Listed → Recipe
-of_unsigned list = record { plain = list; masked = list; takes_mask = false; order = Straight; signed = false }
+of_unsigned list = record (of_two list) { signs = record { a = false; b = false; immediate = false } }
 
+-- two lists, of which the second takes the mask as an operand
 abbrev pub with_mask : Listed → Listed → Recipe
-with_mask plain masked = record { plain = plain; masked = masked; takes_mask = true; order = Straight; signed = true }
+with_mask plain masked = record (of_two plain) { masked = masked; takes_mask = true }
 
+-- a list that takes the operands in another order, or at other widths
 abbrev pub ordered : Listed → Order → Recipe
-ordered list order = record { plain = list; masked = list; takes_mask = false; order = order; signed = true }
+ordered list order = record (of_two list) { order = order }
+
+-- the same, where narrower operands are extended by their sign
+abbrev pub on_signed : Listed → Order → Recipe
+on_signed list order = record (ordered list order) { signs = record { a = true; b = true; immediate = true } }
 
 -- the recipe of each operation that is built
 unfoldable pub recipe_for : VOp → Option Recipe
@@ -84,6 +94,20 @@ recipe_for (Opm Vmacc) = Some (of_two (Products Macc))
 recipe_for (Opm Vnmsac) = Some (of_two (Products Nmsac))
 recipe_for (Opm Vmadd) = Some (ordered (Products Macc) Exchanged)
 recipe_for (Opm Vnmsub) = Some (ordered (Products Nmsac) Exchanged)
+recipe_for (Opi Vnsrl) = Some (of_unsigned (Halves Srl))
+recipe_for (Opi Vnsra) = Some (of_unsigned (Halves Sra))
+recipe_for (Opm VzextVf2) = Some (ordered Copies Half)
+recipe_for (Opm VzextVf4) = Some (ordered Copies Quarter)
+recipe_for (Opm VsextVf2) = Some (on_signed Copies Half)
+recipe_for (Opm VsextVf4) = Some (on_signed Copies Quarter)
+recipe_for (Opm Vwaddu) = Some (ordered (Sums Add) Widening)
+recipe_for (Opm Vwadd) = Some (on_signed (Sums Add) Widening)
+recipe_for (Opm Vwsubu) = Some (ordered (Sums Sub) Widening)
+recipe_for (Opm Vwsub) = Some (on_signed (Sums Sub) Widening)
+recipe_for (Opm VwadduW) = Some (ordered (Sums Add) WideSource)
+recipe_for (Opm VwaddW) = Some (on_signed (Sums Add) WideSource)
+recipe_for (Opm VwsubuW) = Some (ordered (Sums Sub) WideSource)
+recipe_for (Opm VwsubW) = Some (on_signed (Sums Sub) WideSource)
 recipe_for _ = None
 
 -- ---- lists
@@ -97,6 +121,13 @@ makes_bits (Choices kind) = false
 makes_bits (Shifts kind) = false
 makes_bits (Products kind) = false
 makes_bits (Divisions kind) = false
+makes_bits Copies = false
+makes_bits (Halves kind) = false
+
+-- the list computes the elements of one half of a register at a time, at twice their width
+abbrev pub makes_halves : Listed → Bool
+makes_halves (Halves kind) = true
+makes_halves _ = false
 
 -- the list takes the mask as an operand
 abbrev pub takes_row : Listed → Bool
@@ -107,11 +138,24 @@ takes_row (Choices kind) = false
 takes_row (Shifts kind) = false
 takes_row (Products kind) = false
 takes_row (Divisions kind) = false
+takes_row Copies = false
+takes_row (Halves kind) = false
 
--- the rows of the operands of a division: where it has signs, they are not those of wide operands
-abbrev pub HasDivisionRows : Listed → (a b : ℕ) → Type 0
-HasDivisionRows (Divisions kind) a b = IsRowOf kind a × IsRowOf kind b
-HasDivisionRows _ a b = Unit {0}
+-- the list takes an operand that is laid out in the row of results
+abbrev pub takes_laid : Listed → Bool
+takes_laid Copies = true
+takes_laid _ = false
+
+-- the list needs the rows of wide operands for itself
+abbrev pub uses_wide_rows : Listed → Bool
+uses_wide_rows (Divisions kind) = true
+uses_wide_rows _ = false
+
+-- the rows that the two operands of a list may have
+abbrev pub FitsRows : Listed → (a b : ℕ) → Type 0
+FitsRows Copies a b = (a ≡ result_row) × IsOperandRow b
+FitsRows (Divisions kind) a b = IsRowOf kind a × IsRowOf kind b
+FitsRows _ a b = IsOperandRow a × IsOperandRow b
 
 -- a place of these rows
 abbrev pub rows : (a b d to : ℕ) → Place
@@ -126,6 +170,8 @@ list_of (Choices kind) w a b d to = choice_ops kind w (rows a b d to)
 list_of (Shifts kind) w a b d to = shift_ops kind w (log2 w) (rows a b d to)
 list_of (Products kind) w a b d to = product_ops kind w (rows a b d to)
 list_of (Divisions kind) w a b d to = division_ops kind w (rows a b d to)
+list_of Copies w a b d to = micros w (commit w a to)
+list_of (Halves kind) w a b d to = raw_ops kind (2 * w) (log2 (2 * w)) (rows a b d to)
 
 -- the same, from the rows of a place
 abbrev pub list_at : Listed → (w : ℕ) → Place → List MicroOp
@@ -140,6 +186,8 @@ value_of (Choices kind) w a b d m = choice_value kind w a b
 value_of (Shifts kind) w a b d m = shift_value kind w (log2 w) a b
 value_of (Products kind) w a b d m = product_value kind w a b d
 value_of (Divisions kind) w a b d m = division_value kind w a b
+value_of Copies w a b d m = a
+value_of (Halves kind) w a b d m = shift_value kind (2 * w) (log2 (2 * w)) a b
 
 -- the truth that it tells
 abbrev pub truth_of : Listed → (w a b : ℕ) → Bool → Bool
@@ -155,6 +203,8 @@ counts_of (Choices kind) w = choice_counts w
 counts_of (Shifts kind) w = shift_counts kind w (log2 w)
 counts_of (Products kind) w = product_counts kind w
 counts_of (Divisions kind) w = division_counts kind w
+counts_of Copies w = counts 2 2 0
+counts_of (Halves kind) w = raw_counts kind (2 * w) (log2 (2 * w))
 
 -- the number of its operations
 unfoldable pub length_of : Listed → (w : ℕ) → ℕ
@@ -165,6 +215,8 @@ length_of (Choices kind) w = choice_length w
 length_of (Shifts kind) w = shift_length kind w (log2 w)
 length_of (Products kind) w = product_length kind w
 length_of (Divisions kind) w = division_length kind w
+length_of Copies w = 4
+length_of (Halves kind) w = raw_length kind (2 * w) (log2 (2 * w))
 
 -- ---- what a list computes
 

@@ -1,17 +1,23 @@
 // The rows of an instruction's operands, and its scalar.
-ghost use Rattle.std.specs.Prelude.{◌≡◌, ◌⊎◌, ◌+◌, ◌<◌};
+ghost use Rattle.std.specs.Prelude.{◌≡◌, ℕ, Bool, ◌⊎◌, ◌+◌, ◌*◌, ◌<◌};
+ghost use Rattle.bit_laws.specs.Numbers.{low};
 ghost use Rattle.bit_laws.specs.Signed.{extended};
 ghost use Rattle.frame_laws.specs.Classes.Operands.{row_of};
+ghost use Rattle.frame_meaning.specs.Halves.{half_scalar, half_in_vs1};
 ghost use Rattle.frame_meaning.specs.Masks.{compare_operands};
-ghost use Rattle.frame_meaning.specs.Shapes.{source_in_vs1, operands_in};
-ghost use Rattle.micro_ir.specs.WorkRows.{IsOperandRow};
+ghost use Rattle.frame_meaning.specs.Shapes.{source_in_vs1, narrow_in_vs1, scalar_of};
+ghost use Rattle.legal_groups.specs.Facts.{IsElementWidth};
 ghost use Rattle.rvv_meaning.specs.Operations.{immediate_bits};
-ghost use Rattle.vec_exec.specs.Programs.{IsPlaced, IsMaskPlaced};
+ghost use Rattle.vec_exec.specs.Programs.{IsPlaced, IsMaskPlaced, operands_of, width_of};
 
 use crate::recipes::Recipe;
 use frame_meaning::Order;
-use micro_ir::{Place, SCALAR_ROW};
+use micro_ir::{LEFT_ROW, Place, RESULT_ROW, RIGHT_ROW, SCALAR_ROW};
 use rvv_decode::{Form, VInstr};
+use vtype_cfg::Cfg;
+
+// LMUL counts eighths of a register.
+pub(crate) const EIGHTHS: u8 = 8;
 
 // The bits of a word.
 const WORD_BITS: u32 = 32;
@@ -32,9 +38,67 @@ pub(crate) fn immediate(signed: bool, width: u8, bits: u8) -> u32
     (u32::MAX >> (WORD_BITS - u32::from(width))) - (missing - 1)
 }
 
-// The row of the operand in the place of vs1 for a register of the group.
+// The low bits of a scalar, as many as an element of SEW bits has, extended to twice as many by their sign or by zeros.
+fn widened(signed: bool, width: u8, scalar: u32) -> u32
+    requires width { (width ≡ 8) ⊎ (width ≡ 16) }
+    ensures { result ≡ extended signed width (2 * width) (low width scalar) }
+{
+    let size = 1u32 << width;
+    let number = scalar % size;
+    if !signed || number < size / 2 {
+        return number;
+    }
+    number + ((u32::MAX >> (WORD_BITS - 2 * u32::from(width))) - (size - 1))
+}
+
+// The width of the elements of the destination.
+pub(crate) fn width(recipe: Recipe, cfg: &Cfg) -> u8
+    requires sew { IsElementWidth cfg.now.vtype.sew }
+    ensures { result ≡ width_of recipe cfg.now }
+{
+    match recipe.order {
+        Order::Widening | Order::WideSource => 2 * cfg.vtype.sew,
+        Order::Straight
+        | Order::Reversed
+        | Order::Second
+        | Order::Exchanged
+        | Order::Half
+        | Order::Quarter => cfg.vtype.sew,
+    }
+}
+
+// The number of the scalar's row, where the instruction takes a scalar from a register or an immediate.
+pub(crate) fn scalar_number(recipe: Recipe, i: &VInstr, cfg: &Cfg, scalar: u32) -> u32
+    requires sew { IsElementWidth cfg.now.vtype.sew }
+    requires wide { IsElementWidth (width_of recipe cfg.now) }
+    requires immediate { i.now.vs1 < 32 }
+    ensures { result ≡ scalar_of recipe.order recipe.signs i.now cfg.now.vtype.sew scalar }
+{
+    match (i.form, recipe.order) {
+        (Form::V, _) => 0,
+        (Form::I, _) => immediate(recipe.signs.immediate, width(recipe, cfg), i.vs1),
+        (Form::X, Order::Widening | Order::WideSource) => {
+            widened(recipe.signs.b, cfg.vtype.sew, scalar)
+        }
+        (Form::X, _) => scalar,
+    }
+}
+
+// The same for an instruction whose first operand is twice as wide.
+pub(crate) fn half_scalar_number(i: &VInstr, cfg: &Cfg, scalar: u32) -> u32
+    requires narrow { (cfg.now.vtype.sew ≡ 8) ⊎ (cfg.now.vtype.sew ≡ 16) }
+    ensures { result ≡ half_scalar i.now cfg.now.vtype.sew scalar }
+{
+    match i.form {
+        Form::V => 0,
+        Form::X => widened(false, cfg.vtype.sew, scalar),
+        Form::I => u32::from(i.vs1),
+    }
+}
+
+// The row of the operand in the place of vs1 for a register of the group, which is as wide as the destination.
 fn second_row(i: &VInstr, register: u8) -> u8
-    requires { IsOperandRow (row_of (source_in_vs1 i.now.form i.now.vs1) register) }
+    requires { row_of (source_in_vs1 i.now.form i.now.vs1) register < 64 }
     ensures { result ≡ row_of (source_in_vs1 i.now.form i.now.vs1) register }
 {
     match i.form {
@@ -43,29 +107,98 @@ fn second_row(i: &VInstr, register: u8) -> u8
     }
 }
 
-// The rows of a list's operands for a register of the group, and the register that it writes. A list that takes vs1 alone has
-// the destination in the place of vs2.
-pub(crate) fn place(recipe: Recipe, i: &VInstr, register: u8) -> Place
-    requires { IsPlaced recipe i.now register }
-    ensures a { result.a ≡ row_of (operands_in recipe.order i.now).a register }
-    ensures b { result.b ≡ row_of (operands_in recipe.order i.now).b register }
-    ensures addend { result.addend ≡ row_of (operands_in recipe.order i.now).addend register }
+// The row of that operand where it is half as wide as the destination, and is laid out.
+fn wide_row(i: &VInstr) -> u8
+    ensures { (signed : Bool) (sew register : ℕ) → result ≡ row_of (narrow_in_vs1 i.now.form signed sew i.now.vs1) register }
+{
+    match i.form {
+        Form::V => RIGHT_ROW,
+        Form::X | Form::I => SCALAR_ROW,
+    }
+}
+
+// The row of that operand where the first one is twice as wide as the destination.
+fn half_row(i: &VInstr) -> u8
+    ensures { (sew part : ℕ) → result ≡ row_of (half_in_vs1 i.now.form sew i.now.vs1) part }
+{
+    match i.form {
+        Form::V => LEFT_ROW,
+        Form::X | Form::I => SCALAR_ROW,
+    }
+}
+
+// The row of a list's first operand for a register of the group.
+fn first_source(recipe: Recipe, i: &VInstr, cfg: &Cfg, register: u8) -> u8
+    requires { IsPlaced recipe i.now cfg.now register }
+    ensures { result ≡ row_of (operands_of recipe i.now cfg.now).a register }
+{
+    match recipe.order {
+        Order::Straight | Order::WideSource => i.vs2 + register,
+        Order::Reversed => second_row(i, register),
+        Order::Second | Order::Exchanged => i.vd + register,
+        Order::Widening => LEFT_ROW,
+        Order::Half | Order::Quarter => RESULT_ROW,
+    }
+}
+
+// The row of its second operand.
+fn second_source(recipe: Recipe, i: &VInstr, cfg: &Cfg, register: u8) -> u8
+    requires { IsPlaced recipe i.now cfg.now register }
+    ensures { result ≡ row_of (operands_of recipe i.now cfg.now).b register }
+{
+    match recipe.order {
+        Order::Straight | Order::Second | Order::Exchanged => second_row(i, register),
+        Order::Reversed => i.vs2 + register,
+        Order::Widening | Order::WideSource => wide_row(i),
+        Order::Half | Order::Quarter => i.vd + register,
+    }
+}
+
+// The register of its third operand.
+fn third_source(recipe: Recipe, i: &VInstr, cfg: &Cfg, register: u8) -> u8
+    requires { IsPlaced recipe i.now cfg.now register }
+    ensures { result ≡ (operands_of recipe i.now cfg.now).addend + register }
+{
+    match recipe.order {
+        Order::Exchanged => i.vs2 + register,
+        Order::Straight
+        | Order::Reversed
+        | Order::Second
+        | Order::Widening
+        | Order::WideSource
+        | Order::Half
+        | Order::Quarter => i.vd + register,
+    }
+}
+
+// The rows of a list's operands for a register of the group, and the register that it writes.
+pub(crate) fn place(recipe: Recipe, i: &VInstr, cfg: &Cfg, register: u8) -> Place
+    requires { IsPlaced recipe i.now cfg.now register }
+    ensures a { result.a ≡ row_of (operands_of recipe i.now cfg.now).a register }
+    ensures b { result.b ≡ row_of (operands_of recipe i.now cfg.now).b register }
+    ensures addend { result.addend ≡ (operands_of recipe i.now cfg.now).addend + register }
     ensures to { result.to ≡ i.now.vd + register }
 {
-    let to = i.vd + register;
-    let second = second_row(i, register);
-    let (a, b, addend) = match recipe.order {
-        Order::Straight => (i.vs2 + register, second, to),
-        Order::Reversed => (second, i.vs2 + register, to),
-        Order::Second => (to, second, to),
-        Order::Exchanged => (to, second, i.vs2 + register),
-    };
-    at_rows(a, b, addend, to)
+    let a = first_source(recipe, i, cfg, register);
+    let b = second_source(recipe, i, cfg, register);
+    let addend = third_source(recipe, i, cfg, register);
+    at_rows(a, b, addend, i.vd + register)
+}
+
+// The rows of the operands of half `half` of a register of the destination, of a list that writes no register.
+pub(crate) fn half_place(i: &VInstr, register: u8, half: u8) -> Place
+    requires vs2 { i.now.vs2 + (2 * register + half) < 32 }
+    ensures a { result.a ≡ i.now.vs2 + (2 * register + half) }
+    ensures b { (sew : ℕ) → result.b ≡ row_of (half_in_vs1 i.now.form sew i.now.vs1) (2 * register + half) }
+    ensures addend { result.addend ≡ i.now.vd }
+    ensures to { result.to ≡ i.now.vd }
+{
+    at_rows(i.vs2 + (2 * register + half), half_row(i), i.vd, i.vd)
 }
 
 // The rows of a comparison's operands for a register of their groups.
-pub(crate) fn mask_place(i: &VInstr, register: u8) -> Place
-    requires { IsMaskPlaced i.now register }
+pub(crate) fn mask_place(recipe: Recipe, i: &VInstr, register: u8) -> Place
+    requires { IsMaskPlaced recipe i.now register }
     ensures a { result.a ≡ row_of (compare_operands i.now).a register }
     ensures b { result.b ≡ row_of (compare_operands i.now).b register }
     ensures addend { result.addend ≡ i.now.vd }

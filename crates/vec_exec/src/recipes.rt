@@ -3,21 +3,23 @@
 ghost use Rattle.std.specs.Prelude.{◌≡◌, ℕ, ◌<◌, ◌≤◌, ◌+◌, ◌++◌, true, false};
 ghost use Rattle.micro_ir.specs.Measures.{Measured};
 ghost use Rattle.micro_ir.specs.WorkRows.{IsOperandRow};
-ghost use Rattle.rvv_decode.specs.declared.instruction.VOp.TheVariants.{Opi, Opm};
 ghost use Rattle.vec_exec.specs.declared.recipes.Listed.{Listed};
-ghost use Rattle.vec_exec.specs.Recipes.{recipe_for, list_of, counts_of, length_of, Computes, HasDivisionRows, makes_bits as tells_bits};
+ghost use Rattle.rvv_decode.specs.declared.instruction.VOp.TheVariants.{Opi, Opm};
+ghost use Rattle.vec_exec.specs.Recipes as lists;
+ghost use Rattle.vec_exec.specs.Recipes.{recipe_for, list_of, counts_of, length_of, Computes, FitsRows};
 
 use bit_laws::Width;
-use frame_meaning::Order;
+use frame_meaning::{Order, Signs};
 use gen_arith::{Choice, Sum, Truth, arith_length_law, emit_choice, emit_sum, emit_truth};
 use gen_div::{Division, division_length_law, emit_division};
 use gen_logic::{Logic, emit_logic, logic_length_law};
 use gen_mul::{Product, emit_product, product_length_law};
 use gen_shift::{Shift, emit_shift, shift_length_law};
-use micro_ir::{MicroBuf, Place};
+use micro_ir::{MicroBuf, Place, emit_commit};
 use rvv_decode::{OpiOp, OpmOp, VOp};
 
-/// A list: a generator's table, and a kind of it.
+/// A list: a generator's table, and a kind of it; a copy of what is laid out; or a shift at twice the width of the elements,
+/// which computes one half of a register at a time.
 #[derive(Clone, Copy, PartialEq, Eq)]
 pub(crate) enum Listed {
     Bits(Logic),
@@ -27,68 +29,96 @@ pub(crate) enum Listed {
     Shifts(Shift),
     Products(Product),
     Divisions(Division),
+    Copies,
+    Halves(Shift),
 }
 
 /// How an operation is computed: the list where the mask is no operand, and the one where it is; whether the mask is one
-/// where the word names it; how the list takes the operands; and whether an immediate has a sign.
+/// where the word names it; how the list takes the operands; and which of these have a sign.
 #[derive(Clone, Copy, PartialEq, Eq)]
 pub(crate) struct Recipe {
     pub(crate) plain: Listed,
     pub(crate) masked: Listed,
     pub(crate) takes_mask: bool,
     pub(crate) order: Order,
-    pub(crate) signed: bool,
+    pub(crate) signs: Signs,
 }
 
-// A recipe of one list, on two operands and a signed immediate.
+// An immediate alone has a sign; nothing has one; and all operands have one.
+const SIGNED_IMMEDIATE: Signs = Signs {
+    a: false,
+    b: false,
+    immediate: true,
+};
+
+const UNSIGNED: Signs = Signs {
+    a: false,
+    b: false,
+    immediate: false,
+};
+
+const SIGNED: Signs = Signs {
+    a: true,
+    b: true,
+    immediate: true,
+};
+
+// A recipe of one list, on operands that are as wide, or that are extended by zeros, and a signed immediate.
 const fn of_two(list: Listed) -> Recipe
-    ensures { result ≡ record { plain = list; masked = list; takes_mask = false; order = Order.Straight; signed = true } }
+    ensures { result ≡ lists.of_two list }
 {
-    Recipe {
-        plain: list,
-        masked: list,
-        takes_mask: false,
-        order: Order::Straight,
-        signed: true,
-    }
+    ordered(list, Order::Straight)
 }
 
 // The same where an immediate has no sign.
 const fn of_unsigned(list: Listed) -> Recipe
-    ensures { result ≡ record { plain = list; masked = list; takes_mask = false; order = Order.Straight; signed = false } }
+    ensures { result ≡ lists.of_unsigned list }
 {
     Recipe {
         plain: list,
         masked: list,
         takes_mask: false,
         order: Order::Straight,
-        signed: false,
+        signs: UNSIGNED,
     }
 }
 
 // A recipe of two lists, of which the second takes the mask as an operand.
 const fn with_mask(plain: Listed, masked: Listed) -> Recipe
-    ensures { result ≡ record { plain = plain; masked = masked; takes_mask = true; order = Order.Straight; signed = true } }
+    ensures { result ≡ lists.with_mask plain masked }
 {
     Recipe {
         plain,
         masked,
         takes_mask: true,
         order: Order::Straight,
-        signed: true,
+        signs: SIGNED_IMMEDIATE,
     }
 }
 
-// A recipe whose list takes the operands in another order.
+// A recipe whose list takes the operands in another order, or at other widths.
 const fn ordered(list: Listed, order: Order) -> Recipe
-    ensures { result ≡ record { plain = list; masked = list; takes_mask = false; order = order; signed = true } }
+    ensures { result ≡ lists.ordered list order }
 {
     Recipe {
         plain: list,
         masked: list,
         takes_mask: false,
         order,
-        signed: true,
+        signs: SIGNED_IMMEDIATE,
+    }
+}
+
+// The same, where narrower operands are extended by their sign.
+const fn on_signed(list: Listed, order: Order) -> Recipe
+    ensures { result ≡ lists.on_signed list order }
+{
+    Recipe {
+        plain: list,
+        masked: list,
+        takes_mask: false,
+        order,
+        signs: SIGNED,
     }
 }
 
@@ -137,6 +167,8 @@ fn opi_recipe(op: OpiOp) -> Option<Recipe>
         OpiOp::Vmax => of_two(Listed::Choices(Choice::Max)),
         OpiOp::Vmerge => with_mask(Listed::Bits(Logic::First), Listed::Bits(Logic::Merge)),
         OpiOp::VmvV => ordered(Listed::Bits(Logic::Second), Order::Second),
+        OpiOp::Vnsrl => of_unsigned(Listed::Halves(Shift::Srl)),
+        OpiOp::Vnsra => of_unsigned(Listed::Halves(Shift::Sra)),
         _ => return None,
     };
     Some(recipe)
@@ -160,6 +192,18 @@ fn opm_recipe(op: OpmOp) -> Option<Recipe>
         OpmOp::Vnmsac => of_two(Listed::Products(Product::Nmsac)),
         OpmOp::Vmadd => ordered(Listed::Products(Product::Macc), Order::Exchanged),
         OpmOp::Vnmsub => ordered(Listed::Products(Product::Nmsac), Order::Exchanged),
+        OpmOp::VzextVf2 => ordered(Listed::Copies, Order::Half),
+        OpmOp::VzextVf4 => ordered(Listed::Copies, Order::Quarter),
+        OpmOp::VsextVf2 => on_signed(Listed::Copies, Order::Half),
+        OpmOp::VsextVf4 => on_signed(Listed::Copies, Order::Quarter),
+        OpmOp::Vwaddu => ordered(Listed::Sums(Sum::Add), Order::Widening),
+        OpmOp::Vwadd => on_signed(Listed::Sums(Sum::Add), Order::Widening),
+        OpmOp::Vwsubu => ordered(Listed::Sums(Sum::Sub), Order::Widening),
+        OpmOp::Vwsub => on_signed(Listed::Sums(Sum::Sub), Order::Widening),
+        OpmOp::VwadduW => ordered(Listed::Sums(Sum::Add), Order::WideSource),
+        OpmOp::VwaddW => on_signed(Listed::Sums(Sum::Add), Order::WideSource),
+        OpmOp::VwsubuW => ordered(Listed::Sums(Sum::Sub), Order::WideSource),
+        OpmOp::VwsubW => on_signed(Listed::Sums(Sum::Sub), Order::WideSource),
         _ => return None,
     };
     Some(recipe)
@@ -167,9 +211,16 @@ fn opm_recipe(op: OpmOp) -> Option<Recipe>
 
 /// Whether the list tells a truth of each element, and so makes the bits of a mask.
 pub(crate) fn makes_bits(list: Listed) -> bool
-    ensures { result ≡ tells_bits list }
+    ensures { result ≡ lists.makes_bits list }
 {
     matches!(list, Listed::Truths(_))
+}
+
+/// Whether the list computes the elements of one half of a register at a time.
+pub(crate) fn makes_halves(list: Listed) -> bool
+    ensures { result ≡ lists.makes_halves list }
+{
+    matches!(list, Listed::Halves(_))
 }
 
 // Does nothing. It shows that no list is longer at the widths of elements.
@@ -186,10 +237,9 @@ pub(crate) fn list_length_law()
 /// Appends a list.
 #[tactic(auto, unfolding(crate::specs::Recipes::list_of, crate::specs::Recipes::counts_of, crate::specs::Recipes::length_of, crate::specs::Recipes::Computes))]
 pub(crate) fn emit_list<W: Width>(list: Listed, at: &Place, buf: &mut MicroBuf)
-    requires a { IsOperandRow at.now.a }
-    requires b { IsOperandRow at.now.b }
+    requires whole { lists.makes_halves list ≡ false }
+    requires rows { FitsRows list at.now.a at.now.b }
     requires addend { IsOperandRow at.now.addend }
-    requires division { HasDivisionRows list at.now.a at.now.b }
     requires to { at.now.to < 32 }
     requires room { length_of list W.BITS ≤ buf.old.spare }
     ensures ops { buf.new.ops ≡ buf.old.ops ++ list_of list W.BITS at.now.a at.now.b at.now.addend at.now.to }
@@ -205,5 +255,7 @@ pub(crate) fn emit_list<W: Width>(list: Listed, at: &Place, buf: &mut MicroBuf)
         Listed::Shifts(kind) => emit_shift::<W>(buf, at, kind),
         Listed::Products(kind) => emit_product::<W>(buf, at, kind),
         Listed::Divisions(kind) => emit_division::<W>(buf, at, kind),
+        Listed::Copies => emit_commit(buf, at.a, at.to),
+        Listed::Halves(_) => unreachable!(),
     }
 }

@@ -1,17 +1,16 @@
 // The operations on the registers of a group.
-ghost use Rattle.std.specs.Prelude.{◌≡◌, ℕ, ◌+◌, ◌*◌, ◌/◌, ◌<◌, ◌≤◌, ◌++◌, cond};
+ghost use Rattle.std.specs.Prelude.{◌≡◌, ℕ, ◌+◌, ◌*◌, ◌/◌, ◌<◌, ◌≤◌, ◌++◌, cond, true, false};
 ghost use Rattle.rvv_meaning.specs.Elementwise.{is_ones};
-ghost use Rattle.micro_ir.specs.Measures.{Measured};
-ghost use Rattle.micro_ir.specs.WorkRows.{IsOperandRow};
-ghost use Rattle.vec_exec.specs.Recipes.{list_at, length_of, counts_of, Computes, HasDivisionRows};
-ghost use Rattle.vec_exec.specs.Programs.{IsPlaced, IsMaskPlaced, IsMade, IsMaskMade, fill_list, window_list, list_for, register_list, register_length, registers_list, free_bits, free_count, mask_register_list, mask_register_length, mask_registers_list, mask_fill_list, reads, masked};
+ghost use Rattle.vec_exec.specs.Recipes.{makes_bits, makes_halves};
+ghost use Rattle.vec_exec.specs.Programs.{IsPlaced, IsMaskPlaced, IsMade, IsMaskMade, width_of, fill_list, window_list, list_for, body_list, body_length, register_list, register_length, registers_list, free_bits, free_count, mask_register_list, mask_register_length, mask_registers_list, mask_fill_list, reads, masked};
 
+use crate::laying::{emit_first, emit_second};
 use crate::operands::{at_rows, mask_place, place};
 use crate::recipes::{Listed, Recipe, emit_list};
 use bit_laws::Width;
 use gen_logic::emit_fill;
 use mask_window::{active, free};
-use micro_ir::{ACTIVE_ROW, MASK_ROW, MicroBuf, MicroOp, Place, TRUTH_ROW};
+use micro_ir::{ACTIVE_ROW, MASK_ROW, MicroBuf, MicroOp, TRUTH_ROW};
 use rvv_decode::VInstr;
 use vtype_cfg::{Cfg, Policy};
 
@@ -41,16 +40,16 @@ pub(crate) fn use_of(recipe: Recipe, i: &VInstr) -> Use
 }
 
 // The operations that mark the elements of a register, and lay out their mask bits where the mask is an operand.
-fn emit_windows(cfg: &Cfg, mask: Use, first: u32, buf: &mut MicroBuf)
+pub(crate) fn emit_windows<W: Width>(cfg: &Cfg, mask: Use, first: u32, buf: &mut MicroBuf)
     requires room { 1 + cond mask.reads 1 0 ≤ buf.old.spare }
-    ensures ops { buf.new.ops ≡ buf.old.ops ++ window_list cfg.now mask.reads mask.masked first }
+    ensures ops { buf.new.ops ≡ buf.old.ops ++ window_list cfg.now W.BITS mask.reads mask.masked first }
     ensures spare { buf.new.spare + (1 + cond mask.reads 1 0) ≡ buf.old.spare }
 {
-    active(buf, cfg, cfg.vtype.sew, first, mask.masked);
+    active(buf, cfg, W::BITS as u8, first, mask.masked);
     if mask.reads {
         buf.push(MicroOp::Window {
             row: MASK_ROW,
-            width: cfg.vtype.sew,
+            width: W::BITS as u8,
             first,
             from: cfg.vstart,
             to: cfg.vl,
@@ -60,55 +59,52 @@ fn emit_windows(cfg: &Cfg, mask: Use, first: u32, buf: &mut MicroBuf)
 }
 
 // Ones into the agnostic elements of a register, where agnostic elements become ones.
-fn emit_free<W: Width>(cfg: &Cfg, first: u32, masked: bool, to: u8, buf: &mut MicroBuf)
-    requires width { cfg.now.vtype.sew ≡ W.BITS }
+pub(crate) fn emit_free<W: Width>(cfg: &Cfg, first: u32, masked: bool, to: u8, buf: &mut MicroBuf)
     requires to { to < 32 }
     requires room { cond (is_ones cfg.now.policy) 3 0 ≤ buf.old.spare }
-    ensures ops { buf.new.ops ≡ buf.old.ops ++ fill_list cfg.now first masked to }
+    ensures ops { buf.new.ops ≡ buf.old.ops ++ fill_list cfg.now W.BITS first masked to }
     ensures spare { buf.new.spare + cond (is_ones cfg.now.policy) 3 0 ≡ buf.old.spare }
 {
     match cfg.policy {
         Policy::Keep => {}
         Policy::Ones => {
-            free(buf, cfg, cfg.vtype.sew, first, masked, cfg.vtype.vta);
+            free(buf, cfg, W::BITS as u8, first, masked, cfg.vtype.vta);
             emit_fill::<W>(buf, &at_rows(to, to, to, to));
         }
     }
 }
 
 // The number of the first element of a register of a group.
-fn first_of(cfg: &Cfg, register: u8) -> u32
-    requires sew { 0 < cfg.now.vtype.sew }
+pub(crate) fn first_of<W: Width>(cfg: &Cfg, register: u8) -> u32
     requires length { cfg.now.vlen ≤ 65536 }
     requires few { register < 8 }
-    ensures { result ≡ register * (cfg.now.vlen / cfg.now.vtype.sew) }
+    ensures { result ≡ register * (cfg.now.vlen / W.BITS) }
 {
-    u32::from(register) * (cfg.vlen / u32::from(cfg.vtype.sew))
+    u32::from(register) * (cfg.vlen / W::BITS as u32)
 }
 
-// The operations that mark the elements of a register, and the list that the instruction takes, with the rows of a place.
-fn emit_marked<W: Width>(cfg: &Cfg, mask: Use, first: u32, at: &Place, buf: &mut MicroBuf)
-    requires width { cfg.now.vtype.sew ≡ W.BITS }
-    requires a { IsOperandRow at.now.a }
-    requires b { IsOperandRow at.now.b }
-    requires addend { IsOperandRow at.now.addend }
-    requires division { HasDivisionRows mask.list at.now.a at.now.b }
-    requires to { at.now.to < 32 }
-    requires room { 1 + cond mask.reads 1 0 + length_of mask.list W.BITS ≤ buf.old.spare }
-    ensures ops { buf.new.ops ≡ buf.old.ops
-        ++ window_list cfg.now mask.reads mask.masked first ++ list_at mask.list W.BITS at.now }
-    ensures spare { buf.new.spare + (1 + cond mask.reads 1 0 + length_of mask.list W.BITS) ≡ buf.old.spare }
-    ensures computes { Computes mask.list W.BITS at.now.a at.now.b at.now.addend at.now.to }
-    ensures cost { Measured (counts_of mask.list W.BITS) (length_of mask.list W.BITS) (list_at mask.list W.BITS at.now) }
+// The kind's list for a register of the destination, with what lays its operands out.
+fn emit_body<W: Width>(recipe: Recipe, i: &VInstr, cfg: &Cfg, register: u8, buf: &mut MicroBuf)
+    requires width { width_of recipe cfg.now ≡ W.BITS }
+    requires whole { makes_halves (list_for recipe i.now) ≡ false }
+    requires placed { IsPlaced recipe i.now cfg.now register }
+    requires room { body_length recipe i.now cfg.now ≤ buf.old.spare }
+    ensures ops { buf.new.ops ≡ buf.old.ops ++ body_list recipe i.now cfg.now register }
+    ensures spare { buf.new.spare + body_length recipe i.now cfg.now ≡ buf.old.spare }
+    ensures made { IsMade recipe i.now cfg.now register }
 {
-    emit_windows(cfg, mask, first, buf);
-    emit_list::<W>(mask.list, at, buf);
+    let at = place(recipe, i, cfg, register);
+    let list = use_of(recipe, i).list;
+    emit_first::<W>(recipe, i, cfg, register, buf);
+    emit_second::<W>(recipe, i, cfg, register, buf);
+    emit_list::<W>(list, &at, buf);
 }
 
 // The operations on one register of the destination.
 fn emit_register<W: Width>(recipe: Recipe, i: &VInstr, cfg: &Cfg, register: u8, buf: &mut MicroBuf)
-    requires width { cfg.now.vtype.sew ≡ W.BITS }
-    requires placed { IsPlaced recipe i.now register }
+    requires width { width_of recipe cfg.now ≡ W.BITS }
+    requires whole { makes_halves (list_for recipe i.now) ≡ false }
+    requires placed { IsPlaced recipe i.now cfg.now register }
     requires length { cfg.now.vlen ≤ 65536 }
     requires few { register < 8 }
     requires room { register_length recipe i.now cfg.now ≤ buf.old.spare }
@@ -116,11 +112,11 @@ fn emit_register<W: Width>(recipe: Recipe, i: &VInstr, cfg: &Cfg, register: u8, 
     ensures spare { buf.new.spare + register_length recipe i.now cfg.now ≡ buf.old.spare }
     ensures made { IsMade recipe i.now cfg.now register }
 {
-    let first = first_of(cfg, register);
-    let at = place(recipe, i, register);
+    let first = first_of::<W>(cfg, register);
     let mask = use_of(recipe, i);
-    emit_marked::<W>(cfg, mask, first, &at, buf);
-    emit_free::<W>(cfg, first, mask.masked, at.to, buf);
+    emit_windows::<W>(cfg, mask, first, buf);
+    emit_body::<W>(recipe, i, cfg, register, buf);
+    emit_free::<W>(cfg, first, mask.masked, i.vd + register, buf);
 }
 
 // The operations on all registers of the destination, in rising order.
@@ -131,8 +127,9 @@ pub(crate) fn emit_registers<W: Width>(
     count: u8,
     buf: &mut MicroBuf,
 )
-    requires width { cfg.now.vtype.sew ≡ W.BITS }
-    requires placed { (g : ℕ) → g < count → IsPlaced recipe i.now g }
+    requires width { width_of recipe cfg.now ≡ W.BITS }
+    requires whole { makes_halves (list_for recipe i.now) ≡ false }
+    requires placed { (g : ℕ) → g < count → IsPlaced recipe i.now cfg.now g }
     requires length { cfg.now.vlen ≤ 65536 }
     requires few { count ≤ 8 }
     requires room { count * register_length recipe i.now cfg.now ≤ buf.old.spare }
@@ -167,7 +164,8 @@ fn emit_mask_register<W: Width>(
     buf: &mut MicroBuf,
 )
     requires width { cfg.now.vtype.sew ≡ W.BITS }
-    requires placed { IsMaskPlaced i.now register }
+    requires bits { makes_bits (list_for recipe i.now) ≡ true }
+    requires placed { IsMaskPlaced recipe i.now register }
     requires length { cfg.now.vlen ≤ 65536 }
     requires few { register < 8 }
     requires room { mask_register_length recipe i.now cfg.now + free_count (is_ones cfg.now.policy) register ≤ buf.old.spare }
@@ -175,10 +173,11 @@ fn emit_mask_register<W: Width>(
     ensures spare { buf.new.spare + (mask_register_length recipe i.now cfg.now + free_count (is_ones cfg.now.policy) register) ≡ buf.old.spare }
     ensures made { IsMaskMade recipe i.now cfg.now register }
 {
-    let first = first_of(cfg, register);
-    let at = mask_place(i, register);
+    let first = first_of::<W>(cfg, register);
+    let at = mask_place(recipe, i, register);
     let mask = use_of(recipe, i);
-    emit_marked::<W>(cfg, mask, first, &at, buf);
+    emit_windows::<W>(cfg, mask, first, buf);
+    emit_list::<W>(mask.list, &at, buf);
     emit_free_bits(cfg, mask.masked, register, buf);
     buf.push(MicroOp::PackMask {
         from: TRUTH_ROW,
@@ -198,7 +197,8 @@ pub(crate) fn emit_mask_registers<W: Width>(
     buf: &mut MicroBuf,
 )
     requires width { cfg.now.vtype.sew ≡ W.BITS }
-    requires placed { (g : ℕ) → g < count → IsMaskPlaced i.now g }
+    requires bits { makes_bits (list_for recipe i.now) ≡ true }
+    requires placed { (g : ℕ) → g < count → IsMaskPlaced recipe i.now g }
     requires length { cfg.now.vlen ≤ 65536 }
     requires few { count ≤ 8 }
     requires some { 0 < count }

@@ -12,7 +12,7 @@ use Rattle.micro_ir.specs.Kinds.{Tells}
 use Rattle.frame_laws.specs.Bytes.{size_of, mask_after}
 use Rattle.frame_laws.specs.Masks.Programs.{mask_of, mask_program}
 use Rattle.frame_laws.specs.Masks.Laws.{MaskFramed}
-use Rattle.frame_laws.specs.Classes.Operands.{Operand, group, scalar, operand_number, operand_of, row_of}
+use Rattle.frame_laws.specs.Classes.Operands.{Operand, group, scalar, narrow, operand_number, operand_of, row_of}
 
 -- the two operands
 pub record Pair : Type 0 where
@@ -37,6 +37,7 @@ mask_value i with truth v e =
 abbrev pub IsMaskReadable : Shape → Operand → Type 0
 IsMaskReadable i (group r) = (r + i.registers ≤ 32) × ((i.vd ≡ r) ⊎ ((i.vd < r) ⊎ (r + i.registers ≤ i.vd)))
 IsMaskReadable i scalar = (i.splat ≡ true) × (i.scalar_width ≡ i.width)
+IsMaskReadable i (narrow signed by n r row) = ⊥
 
 -- What an instruction that makes a mask from these operands needs, on slices of so many columns.
 pub record IsCompared (i : Shape) (with : Pair) (truth : Truth) (columns : ℕ) : Type 0 where

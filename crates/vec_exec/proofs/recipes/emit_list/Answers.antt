@@ -1,5 +1,6 @@
-use Rattle.std.proofs.Common.{◌≡◌, Bool, true, false, ◌||◌, refl}
-use Rattle.vec_exec.specs.Recipes.{HasDivisionRows, list_of, counts_of, length_of, Computes}
+use Rattle.std.proofs.Common.{◌≡◌, ◌<◌, Bool, true, false, ◌||◌, refl, arith}
+use Rattle.vec_exec.specs.Recipes.{FitsRows, list_of, counts_of, length_of, Computes}
+use Rattle.vec_exec.proofs.Copied.{copied, copied-measured}
 use Rattle.vec_exec.proofs.Widths.{log2-is}
 use Rattle.vec_exec.proofs.recipes.emit_list.Goals as goal
 
@@ -53,19 +54,81 @@ returns-in-Shifts-clause-cost g c =
     let log = log2-is g.W.Width.BITS g.W.Width.LOG g.met.W.Width.power g.met.W.Width.divides g.met.W.Width.least in
     rw (c.in-Shifts.is, log) c.emit_shift.ensures.cost
 
+pub emit_logic-requires-clause-a : goal.emit_logic-requires-clause-a
+emit_logic-requires-clause-a g c = let rows : FitsRows c.args.list c.args.at.now.a c.args.at.now.b = c.requires.rows in (rw c.in-Bits.is at rows).0
+
+pub emit_logic-requires-clause-b : goal.emit_logic-requires-clause-b
+emit_logic-requires-clause-b g c = let rows : FitsRows c.args.list c.args.at.now.a c.args.at.now.b = c.requires.rows in (rw c.in-Bits.is at rows).1
+
+pub emit_sum-requires-clause-a : goal.emit_sum-requires-clause-a
+emit_sum-requires-clause-a g c = let rows : FitsRows c.args.list c.args.at.now.a c.args.at.now.b = c.requires.rows in (rw c.in-Sums.is at rows).0
+
+pub emit_sum-requires-clause-b : goal.emit_sum-requires-clause-b
+emit_sum-requires-clause-b g c = let rows : FitsRows c.args.list c.args.at.now.a c.args.at.now.b = c.requires.rows in (rw c.in-Sums.is at rows).1
+
+pub emit_truth-requires-clause-a : goal.emit_truth-requires-clause-a
+emit_truth-requires-clause-a g c = let rows : FitsRows c.args.list c.args.at.now.a c.args.at.now.b = c.requires.rows in (rw c.in-Truths.is at rows).0
+
+pub emit_truth-requires-clause-b : goal.emit_truth-requires-clause-b
+emit_truth-requires-clause-b g c = let rows : FitsRows c.args.list c.args.at.now.a c.args.at.now.b = c.requires.rows in (rw c.in-Truths.is at rows).1
+
+pub emit_choice-requires-clause-a : goal.emit_choice-requires-clause-a
+emit_choice-requires-clause-a g c = let rows : FitsRows c.args.list c.args.at.now.a c.args.at.now.b = c.requires.rows in (rw c.in-Choices.is at rows).0
+
+pub emit_choice-requires-clause-b : goal.emit_choice-requires-clause-b
+emit_choice-requires-clause-b g c = let rows : FitsRows c.args.list c.args.at.now.a c.args.at.now.b = c.requires.rows in (rw c.in-Choices.is at rows).1
+
+pub emit_shift-requires-clause-a : goal.emit_shift-requires-clause-a
+emit_shift-requires-clause-a g c = let rows : FitsRows c.args.list c.args.at.now.a c.args.at.now.b = c.requires.rows in (rw c.in-Shifts.is at rows).0
+
+pub emit_shift-requires-clause-b : goal.emit_shift-requires-clause-b
+emit_shift-requires-clause-b g c = let rows : FitsRows c.args.list c.args.at.now.a c.args.at.now.b = c.requires.rows in (rw c.in-Shifts.is at rows).1
+
+pub emit_commit-requires-clause-row : goal.emit_commit-requires-clause-row
+emit_commit-requires-clause-row g c = let rows : FitsRows c.args.list c.args.at.now.a c.args.at.now.b = c.requires.rows in
+    let is = (rw c.in-Copies.is at rows).0 in rw is (omega arith)
+
+pub emit_commit-requires-clause-apart : goal.emit_commit-requires-clause-apart
+emit_commit-requires-clause-apart g c = let rows : FitsRows c.args.list c.args.at.now.a c.args.at.now.b = c.requires.rows in
+    let is = (rw c.in-Copies.is at rows).0 in rw is (omega arith)
+
+pub returns-in-Copies-clause-ops : goal.returns-in-Copies-clause-ops
+unfolding list_of
+returns-in-Copies-clause-ops g c =
+    let some : 0 < g.W.Width.BITS = omega (arith, g.met.W.Width.least) in
+    rw c.in-Copies.is (c.emit_commit.ensures.ops g.W.Width.BITS some)
+
+pub returns-in-Copies-clause-spare : goal.returns-in-Copies-clause-spare
+unfolding length_of
+returns-in-Copies-clause-spare g c = rw c.in-Copies.is c.emit_commit.ensures.spare
+
+pub returns-in-Copies-clause-computes : goal.returns-in-Copies-clause-computes
+unfolding Computes list_of
+returns-in-Copies-clause-computes g c =
+    let rows : FitsRows c.args.list c.args.at.now.a c.args.at.now.b = c.requires.rows in
+    let is = (rw c.in-Copies.is at rows).0 in
+    let to = c.requires.to in
+    rw (c.in-Copies.is, is) (copied g.W.Width.BITS 36 c.args.at.now.to (omega arith) (omega arith) to)
+
+pub returns-in-Copies-clause-cost : goal.returns-in-Copies-clause-cost
+unfolding list_of counts_of length_of
+returns-in-Copies-clause-cost g c = rw c.in-Copies.is (copied-measured g.W.Width.BITS c.args.at.now.a c.args.at.now.to c.requires.to)
+
+pub emit_product-requires-clause-a : goal.emit_product-requires-clause-a
+emit_product-requires-clause-a g c = let rows : FitsRows c.args.list c.args.at.now.a c.args.at.now.b = c.requires.rows in (rw c.in-Products.is at rows).0
+
+pub emit_product-requires-clause-b : goal.emit_product-requires-clause-b
+emit_product-requires-clause-b g c = let rows : FitsRows c.args.list c.args.at.now.a c.args.at.now.b = c.requires.rows in (rw c.in-Products.is at rows).1
+
 pub returns-in-Products-clause-computes : goal.returns-in-Products-clause-computes
 unfolding Computes list_of
 returns-in-Products-clause-computes g c = rw c.in-Products.is (c.emit_product.ensures.realises false)
 
 pub emit_division-requires-clause-a : goal.emit_division-requires-clause-a
-emit_division-requires-clause-a g c =
-    let fine : HasDivisionRows c.args.list c.args.at.now.a c.args.at.now.b = c.requires.division in
-    (rw c.in-Divisions.is at fine).0
+emit_division-requires-clause-a g c = let rows : FitsRows c.args.list c.args.at.now.a c.args.at.now.b = c.requires.rows in (rw c.in-Divisions.is at rows).0
 
 pub emit_division-requires-clause-b : goal.emit_division-requires-clause-b
-emit_division-requires-clause-b g c =
-    let fine : HasDivisionRows c.args.list c.args.at.now.a c.args.at.now.b = c.requires.division in
-    (rw c.in-Divisions.is at fine).1
+emit_division-requires-clause-b g c = let rows : FitsRows c.args.list c.args.at.now.a c.args.at.now.b = c.requires.rows in (rw c.in-Divisions.is at rows).1
 
 pub returns-in-Divisions-clause-computes : goal.returns-in-Divisions-clause-computes
 unfolding Computes list_of

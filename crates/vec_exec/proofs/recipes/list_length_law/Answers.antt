@@ -1,10 +1,11 @@
-use Rattle.std.proofs.Common.{ℕ, ◌≤◌, ◌+◌, ◌*◌, arith}
+use Rattle.std.proofs.Common.{ℕ, ◌≤◌, ◌+◌, ◌*◌, refl, arith}
 use Rattle.std.proofs.lemmas.Nat.{mul-le}
 use Rattle.rvv_meaning.specs.Operations.{log2}
 use Rattle.vec_exec.specs.declared.recipes.Listed.{Listed}
-use Rattle.vec_exec.specs.declared.recipes.Listed.TheVariants.{Bits, Sums, Truths, Choices, Shifts, Products, Divisions}
+use Rattle.vec_exec.specs.declared.recipes.Listed.TheVariants.{Bits, Sums, Truths, Choices, Shifts, Products, Divisions, Copies, Halves}
 use Rattle.vec_exec.specs.Recipes.{length_of}
 use Rattle.vec_exec.proofs.Widths.{log2-small}
+use Rattle.vec_exec.proofs.Written.{half-list-few}
 use Rattle.vec_exec.proofs.recipes.list_length_law.Goals as goal
 
 pub returns : goal.returns
@@ -28,3 +29,5 @@ returns c = few
         let each : 14 * w + 75 ≤ 523 = omega arith in
         let rounds : w * (14 * w + 75) ≤ 32 * 523 = mul-le w (14 * w + 75) 32 523 most each in
         omega (arith, rounds, c.division_length_law.ensures kind w)
+    few Copies w most = omega arith
+    few (Halves kind) w most = omega (arith, half-list-few (Halves kind) w refl most)

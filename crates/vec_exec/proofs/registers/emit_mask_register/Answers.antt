@@ -1,23 +1,22 @@
-use Rattle.std.proofs.Common.{◌≡◌, ◌++◌, ◌∙◌, append_assoc}
-use Rattle.vec_exec.specs.Recipes.{list_of}
-use Rattle.vec_exec.specs.Programs.{window_list, mask_register_list}
+use Rattle.std.proofs.Common.{◌∙◌, append_assoc}
+use Rattle.vec_exec.specs.Programs.{mask_register_list}
+use Rattle.vec_exec.proofs.Written.{bits-no-halves}
 use Rattle.vec_exec.proofs.registers.emit_mask_register.Goals as goal
 
-pub emit_marked-requires-clause-division : goal.emit_marked-requires-clause-division
-emit_marked-requires-clause-division g c = rw (c.mask_place-at.ensures.a, c.mask_place-at.ensures.b) (c.requires.placed.division c.use_of-mask.result.list)
+pub emit_list-requires-clause-whole : goal.emit_list-requires-clause-whole
+emit_list-requires-clause-whole g c = rw c.use_of-mask.ensures.list (bits-no-halves _ c.requires.bits)
+
+pub emit_list-requires-clause-rows : goal.emit_list-requires-clause-rows
+emit_list-requires-clause-rows g c = rw (c.use_of-mask.ensures.list, c.mask_place-at.ensures.a, c.mask_place-at.ensures.b) c.requires.placed.rows
 
 pub returns-clause-ops : goal.returns-clause-ops
 unfolding mask_register_list
 returns-clause-ops g c =
-    let at = c.mask_place-at.result in
-    let mask = c.use_of-mask.result in
-    let marked : c.emit_marked.new.buf.ops
-    ≡ c.args.buf.now.ops ++ window_list c.args.cfg.now mask.reads mask.masked c.first_of-first.result ++ list_of mask.list g.W.Width.BITS at.a at.b at.addend at.to =
-    c.emit_marked.ensures.ops in
     c.push.ensures.ops
     ∙ rw (
       c.emit_free_bits.ensures.ops,
-      marked,
+      c.emit_list.ensures.ops,
+      c.emit_windows.ensures.ops,
       c.mask_place-at.ensures.a,
       c.mask_place-at.ensures.b,
       c.mask_place-at.ensures.addend,

@@ -1,0 +1,33 @@
+use Rattle.vec_exec.specs.Recipes.{list_of, counts_of, length_of}
+use Rattle.vec_exec.proofs.Widths.{log2-is}
+use Rattle.vec_exec.proofs.halves.emit_wide.Goals as goal
+
+pub emit_raw-requires-clause-room : goal.emit_raw-requires-clause-room
+unfolding length_of
+emit_raw-requires-clause-room g c =
+    let log = log2-is g.D.Width.BITS g.D.Width.LOG g.met.D.Width.power g.met.D.Width.divides g.met.D.Width.least in
+    rw log at (rw c.requires.wide at (rw c.in-Halves.is at c.requires.room))
+
+pub returns-clause-ops : goal.returns-clause-ops
+unfolding list_of
+returns-clause-ops g c =
+    let log = log2-is g.D.Width.BITS g.D.Width.LOG g.met.D.Width.power g.met.D.Width.divides g.met.D.Width.least in
+    rw (c.in-Halves.is, c.requires.wide, log) c.emit_raw.ensures.ops
+
+pub returns-clause-spare : goal.returns-clause-spare
+unfolding length_of
+returns-clause-spare g c =
+    let log = log2-is g.D.Width.BITS g.D.Width.LOG g.met.D.Width.power g.met.D.Width.divides g.met.D.Width.least in
+    rw (c.in-Halves.is, c.requires.wide, log) c.emit_raw.ensures.spare
+
+pub returns-clause-leaves : goal.returns-clause-leaves
+unfolding list_of
+returns-clause-leaves g c =
+    let log = log2-is g.D.Width.BITS g.D.Width.LOG g.met.D.Width.power g.met.D.Width.divides g.met.D.Width.least in
+    rw (c.in-Halves.is, c.requires.wide, log) c.emit_raw.ensures.leaves
+
+pub returns-clause-cost : goal.returns-clause-cost
+unfolding list_of counts_of length_of
+returns-clause-cost g c =
+    let log = log2-is g.D.Width.BITS g.D.Width.LOG g.met.D.Width.power g.met.D.Width.divides g.met.D.Width.least in
+    rw (c.in-Halves.is, c.requires.wide, log) c.emit_raw.ensures.cost
