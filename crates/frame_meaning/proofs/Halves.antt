@@ -40,7 +40,8 @@ use Rattle.frame_meaning.specs.Laws.{Runs}
 use Rattle.frame_meaning.specs.Costs.{cost_of, length_of, ElementsMeasured}
 use Rattle.frame_meaning.specs.Halves.{half_count, half_row, half_in_vs1, half_operands, half_scalar_in, half_scalar, half_value_in, half_elements, half_shape, half_body, half_program_in, IsOfHalves, HalvesMeaningLaw, HalvesCostLaw}
 use Rattle.frame_meaning.proofs.Meaning.{meaning_law}
-use Rattle.frame_meaning.proofs.Instructions.{count, Width, width-of, no_mask, reads-same}
+use Rattle.frame_meaning.proofs.Instructions.{count, no_mask, reads-same}
+use Rattle.frame_meaning.proofs.OperandWidths.{Width, width-of}
 
 -- ---- registers of the first operand
 

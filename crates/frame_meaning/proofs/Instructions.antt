@@ -1,17 +1,12 @@
 -- Legal instructions whose operands are groups of elements at the same place are of the class that the frame takes.
-use Rattle.std.proofs.Common.{◌≡◌, suc, ◌+◌, ◌-◌, length, ℕ, ◌*◌, ◌/◌, ◌%◌, ◌^◌, ◌<◌, ◌≤◌, max, Bool, nat_le, IsTrue, eqb, true, false, cond, not, ◌&&◌, ◌||◌, ltb, List, refl, sym, ◌∙◌, ap, arith, ◌⊎◌, inr, ⊎_elim}
+use Rattle.std.proofs.Common.{◌≡◌, suc, ◌+◌, ◌-◌, ℕ, ◌*◌, ◌/◌, ◌%◌, ◌<◌, ◌≤◌, max, Bool, nat_le, IsTrue, eqb, true, false, not, ◌&&◌, ◌||◌, ltb, List, refl, sym, ◌∙◌, ap, arith, ◌⊎◌, inr, ⊎_elim}
 use Rattle.std.specs.List.{list_all}
 use Rattle.std.proofs.lemmas.Bool.{and_parts, ltb-true, leb-true, ne_eqb, cases_lt, lt-ltb, le-leb}
 use Rattle.std.proofs.lemmas.Nat.{div-add-mod', pow_pos}
 use Rattle.std.proofs.Math.Nat.{mod-eq_of_lt, mod-lt, mul-le-mul_right}
-use Rattle.std.proofs.Math.Pow.{pow_mono}
 use Rattle.bit_laws.specs.Numbers.{low}
 use Rattle.bit_laws.specs.Signed.{extended}
-use Rattle.bit_rows.specs.Slices.{Slices}
 use Rattle.cam_chain.specs.Views.{registers_of}
-use Rattle.cam_chain.specs.declared.counts.Counts.{Counts}
-use Rattle.steer_net.specs.Network.{is_width}
-use Rattle.micro_ir.specs.Replay.{replay}
 use Rattle.micro_ir.specs.WorkRows.{result_row, left_row, right_row}
 use Rattle.element_ops.specs.Elements.{element_of}
 use Rattle.rvv_decode.specs.declared.instruction.VInstr.{VInstr}
@@ -24,7 +19,7 @@ use Rattle.vtype_cfg.specs.Legality.{is_legal}
 use Rattle.vtype_cfg.proofs.Supported.{at_supported}
 use Rattle.vtype_cfg.specs.Classes.{Class, Row, class_of, row_of, width_at, count_at, group as group_place}
 use Rattle.rvv_meaning.specs.Elementwise.{makes_mask, registers_after}
-use Rattle.rvv_meaning.specs.Operations.{Operation, reads_mask, immediate_bits, elements_at, on_elements}
+use Rattle.rvv_meaning.specs.Operations.{Operation, reads_mask, elements_at, on_elements}
 use Rattle.rvv_meaning.specs.Operations as meaning
 use Rattle.legal_groups.specs.Facts.{IsElementWidth, registers_for, is_read_for, ReadBeside, GroupWritten}
 use Rattle.legal_groups.proofs.Laws.{legal_group_law}
@@ -34,61 +29,16 @@ use Rattle.frame_laws.specs.Laws.{Framed}
 use Rattle.frame_laws.specs.Bytes as frame
 use Rattle.frame_laws.proofs.Ends.{usual_bounds_law}
 use Rattle.frame_laws.proofs.Costs.{even_tally_law, length_law, range_law}
-use Rattle.frame_laws.specs.Classes.Operands.{Operand, group, scalar, narrow, operand_of, is_laid_out_in, IsReadable}
+use Rattle.frame_laws.specs.Classes.Operands.{group, narrow, operand_of, is_laid_out_in, IsReadable}
 use Rattle.frame_laws.specs.Classes.Plain.{plain_value, IsPlain}
 use Rattle.frame_laws.proofs.Classes.Plain.{plain_bytes_law}
 use Rattle.frame_meaning.specs.declared.Order.{Order}
 use Rattle.frame_meaning.specs.declared.Order.TheVariants.{Straight, Reversed, Second, Exchanged, Widening, WideSource, Half, Quarter}
 use Rattle.frame_meaning.specs.Shapes.{source_in_vs1, narrow_in_vs1, has_scalar, signs_of, scalar_at, scalar_in, scalar_of, width_in, count_in, row_in, class_in, operands_in, value_in, elements_in, shape_in, body_in, program_in}
-use Rattle.frame_meaning.specs.Laws.{Runs, Ignores, ElementsMeaningLaw}
-use Rattle.frame_meaning.specs.Costs.{cost_of, length_of, ElementsMeasured, ElementsCostLaw}
+use Rattle.frame_meaning.specs.Laws.{Ignores, ElementsMeaningLaw}
+use Rattle.frame_meaning.specs.Costs.{cost_of, length_of, ElementsCostLaw}
 use Rattle.frame_meaning.proofs.Meaning.{meaning_law}
-
--- ---- widths
-
--- what SEW of 8, 16 and 32 have in common
-pub record Width (w : ℕ) : Type 0 where
-  pub least : 8 ≤ w
-  pub lanes : 32 / w * w ≡ 32
-  pub whole : 8 * (w / 8) ≡ w
-  pub built : is_width w ≡ true
-
-pub width-of : (w : ℕ) → (w ≡ 8) ⊎ ((w ≡ 16) ⊎ (w ≡ 32)) → Width w
-width-of w is =
-    ⊎_elim (λ (e : w ≡ 8). rw e (record { least = omega arith; lanes = refl; whole = refl; built = refl }))
-    (λ (other : (w ≡ 16) ⊎ (w ≡ 32)).
-    ⊎_elim (λ (e : w ≡ 16). rw e (record { least = omega arith; lanes = refl; whole = refl; built = refl }))
-    (λ (e : w ≡ 32). rw e (record { least = omega arith; lanes = refl; whole = refl; built = refl })) other)
-    is
-
--- a number that is as wide already stays
-pub extended-same : (signed : Bool) (w z : ℕ) → extended signed w w z ≡ z
-extended-same true w z = chosen (not (ltb z (2 ^ (w - 1))))
-  where
-    chosen : (b : Bool) → cond b (z + (2 ^ w - 2 ^ w)) z ≡ z
-    chosen true = omega arith
-    chosen false = refl
-extended-same false w z = refl
-
--- an immediate fits an element
-immediate-fits : (signed : Bool) (w imm : ℕ) → 8 ≤ w → imm < 32 → extended signed immediate_bits w imm < 2 ^ w
-immediate-fits signed w imm least small =
-    let most : 2 ^ 8 ≤ 2 ^ w = pow_mono least in
-    chosen (signed && not (ltb imm (2 ^ 4))) most
-  where
-    chosen : (b : Bool) → 2 ^ 8 ≤ 2 ^ w → cond b (imm + (2 ^ w - 2 ^ 5)) imm < 2 ^ w
-    chosen true most = omega arith
-    chosen false most = omega arith
-
--- a number of n bits, extended to w, fits w bits
-extended-fits : (signed : Bool) (n w z : ℕ) → n ≤ w → z < 2 ^ n → extended signed n w z < 2 ^ w
-extended-fits signed n w z short small =
-    let most : 2 ^ n ≤ 2 ^ w = pow_mono short in
-    chosen (signed && not (ltb z (2 ^ (n - 1)))) most
-  where
-    chosen : (b : Bool) → 2 ^ n ≤ 2 ^ w → cond b (z + (2 ^ w - 2 ^ n)) z < 2 ^ w
-    chosen true most = omega arith
-    chosen false most = omega arith
+use Rattle.frame_meaning.proofs.OperandWidths.{width-of, extended-same, immediate-fits, extended-fits}
 
 -- ---- registers of narrower groups
 

@@ -35,7 +35,8 @@ use Rattle.frame_meaning.specs.Laws.{Runs}
 use Rattle.frame_meaning.specs.Costs.{AllMeasured}
 use Rattle.frame_meaning.specs.Masks.{compare_operands, compare_row, compare_shape, compare_program, truth_in, IsTruth, LeavesMask, CompareMeaningLaw, compare_cost_of, compare_length_of, CompareMeasured, MaskCosts, CompareCostLaw}
 use Rattle.frame_meaning.proofs.Meaning.{mask_meaning_law}
-use Rattle.frame_meaning.proofs.Instructions.{width-of, extended-same, second-value}
+use Rattle.frame_meaning.proofs.Instructions.{second-value}
+use Rattle.frame_meaning.proofs.OperandWidths.{width-of, extended-same}
 
 -- the second operand can be read while the mask is written
 second-readable : (sh : Shape) (f : Form) (vs1 : ℕ) → (f ≡ V → LowestOrApart sh.registers sh.vd vs1) → sh.splat ≡ has_scalar f → sh.scalar_width ≡ sh.width → IsMaskReadable sh (source_in_vs1 f vs1)

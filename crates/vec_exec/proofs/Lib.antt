@@ -4,4 +4,6 @@ pub mod Copied
 pub mod Fits
 pub mod Written
 pub mod Keeping
+pub mod Placed
+pub mod Listing
 pub mod Planned

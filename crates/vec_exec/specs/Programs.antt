@@ -6,8 +6,8 @@ use Rattle.bit_rows.specs.Slices.{Slices}
 use Rattle.cam_chain.specs.ChainValue.{no_counts}
 use Rattle.cam_chain.specs.declared.counts.Counts.{Counts}
 use Rattle.cam_chain.specs.Views.{registers_of}
-use Rattle.frame_laws.specs.Classes.Halved.{Pair, Lists, halves_row, halves_list}
-use Rattle.frame_laws.specs.Classes.Operands.{Operand, group, scalar, narrow, row_of}
+use Rattle.frame_laws.specs.Classes.Halved.{Pair, Lists, halves_row, halves_list, half_list}
+use Rattle.frame_laws.specs.Classes.Operands.{Operand, group, scalar, narrow, row_of, laid_out}
 use Rattle.frame_laws.specs.Classes.Plain.{Operands, with_operands}
 use Rattle.frame_laws.specs.Costs.{counts_times}
 use Rattle.frame_meaning.specs.Costs.{cost_of}
@@ -107,6 +107,10 @@ abbrev pub laid_length : Operand → (w : ℕ) → ℕ
 laid_length (group r) w = 0
 laid_length scalar w = 0
 laid_length (narrow signed by n r row) w = 1 + cond signed (3 * (w - n)) 0
+
+-- what the operations cost that lay out an operand for register g
+abbrev pub IsLaid : Operand → (w g : ℕ) → Type 0
+IsLaid op w g = Measured (laid_counts op w) (laid_length op w) (laid_out op w g)
 
 -- ---- the parts of a program
 
@@ -218,6 +222,14 @@ module _ (r : Recipe) (i : VInstr) (c : Cfg) where
 
   abbrev pub one_half_length : ℕ
   one_half_length = laid_length (halves_of r i c).b (2 * c.vtype.sew) + (length_of (list_for r i) c.vtype.sew + 1)
+
+  -- what half h of register g costs, and the first n halves
+  abbrev pub IsHalfMeasured : (g h : ℕ) → Type 0
+  IsHalfMeasured g h = Measured one_half_counts one_half_length (half_list c.vtype.sew (halves_of r i c) wide_lists g h)
+
+  abbrev pub AreHalvesMeasured : (g n : ℕ) → Type 0
+  AreHalvesMeasured g n =
+      Measured (counts_times n one_half_counts) (n * one_half_length) (halves_list c.vtype.sew (halves_of r i c) wide_lists g n)
 
   abbrev pub half_counts : Counts
   half_counts = counts_and (counts_times (half_count c.vtype) one_half_counts) (counts 2 2 0)

@@ -6,7 +6,7 @@ ghost use Rattle.frame_meaning.specs.Halves.{half_count};
 ghost use Rattle.micro_ir.specs.Measures.{Measured};
 ghost use Rattle.micro_ir.specs.WorkRows.{IsOperandRow};
 ghost use Rattle.vec_exec.specs.Recipes.{makes_halves, list_of, counts_of, length_of};
-ghost use Rattle.vec_exec.specs.Programs.{IsHalfPlaced, IsHalfMade, LeavesHalf, LeavesPart, list_for, halves_of, wide_lists, one_half_counts, one_half_length, half_register_list, half_register_length, half_registers_list};
+ghost use Rattle.vec_exec.specs.Programs.{IsHalfPlaced, IsHalfMade, LeavesHalf, LeavesPart, list_for, halves_of, wide_lists, one_half_length, IsHalfMeasured, AreHalvesMeasured, half_register_list, half_register_length, half_registers_list};
 
 use crate::laying::emit_half_second;
 use crate::operands::{EIGHTHS, half_place};
@@ -56,8 +56,7 @@ fn emit_half<D: Width>(
         ≡ buf.old.ops ++ half_list cfg.now.vtype.sew (halves_of recipe i.now cfg.now) (wide_lists recipe i.now cfg.now) register half }
     ensures spare { buf.new.spare + one_half_length recipe i.now cfg.now ≡ buf.old.spare }
     ensures leaves { LeavesPart recipe i.now cfg.now register half }
-    ensures cost { Measured (one_half_counts recipe i.now cfg.now) (one_half_length recipe i.now cfg.now)
-        (half_list cfg.now.vtype.sew (halves_of recipe i.now cfg.now) (wide_lists recipe i.now cfg.now) register half) }
+    ensures cost { IsHalfMeasured recipe i.now cfg.now register half }
 {
     let at = half_place(i, register, half);
     emit_half_second::<D>(i, cfg, 2 * register + half, buf);
@@ -91,8 +90,7 @@ fn emit_halves<D: Width>(
         ≡ buf.old.ops ++ halves_list cfg.now.vtype.sew (halves_of recipe i.now cfg.now) (wide_lists recipe i.now cfg.now) register count }
     ensures spare { buf.new.spare + count * one_half_length recipe i.now cfg.now ≡ buf.old.spare }
     ensures leaves { (h : ℕ) → h < count → LeavesPart recipe i.now cfg.now register h }
-    ensures cost { Measured (counts_times count (one_half_counts recipe i.now cfg.now)) (count * one_half_length recipe i.now cfg.now)
-        (halves_list cfg.now.vtype.sew (halves_of recipe i.now cfg.now) (wide_lists recipe i.now cfg.now) register count) }
+    ensures cost { AreHalvesMeasured recipe i.now cfg.now register count }
 {
     for half in 0..count {
         emit_half::<D>(recipe, i, cfg, register, half, buf);

@@ -5,7 +5,7 @@ ghost use Rattle.frame_meaning.specs.Halves.{half_in_vs1};
 ghost use Rattle.frame_meaning.specs.Shapes.{narrow_in_vs1};
 ghost use Rattle.legal_groups.specs.Facts.{IsElementWidth};
 ghost use Rattle.micro_ir.specs.Measures.{Measured};
-ghost use Rattle.vec_exec.specs.Programs.{IsPlaced, IsLayable, laid_counts, laid_length, operands_of, width_of};
+ghost use Rattle.vec_exec.specs.Programs.{IsPlaced, IsLayable, IsLaid, laid_length, operands_of, width_of};
 
 use crate::operands::at_rows;
 use crate::recipes::Recipe;
@@ -48,9 +48,7 @@ fn lay_out<W: Width>(group: Narrower, register: u8, buf: &mut MicroBuf)
     ensures ops { buf.new.ops
         ≡ buf.old.ops ++ laid_out (narrow group.signed group.times group.bits group.first group.row) W.BITS register }
     ensures spare { buf.new.spare + laid_length (narrow group.signed group.times group.bits group.first group.row) W.BITS ≡ buf.old.spare }
-    ensures cost { Measured (laid_counts (narrow group.signed group.times group.bits group.first group.row) W.BITS)
-        (laid_length (narrow group.signed group.times group.bits group.first group.row) W.BITS)
-        (laid_out (narrow group.signed group.times group.bits group.first group.row) W.BITS register) }
+    ensures cost { IsLaid (narrow group.signed group.times group.bits group.first group.row) W.BITS register }
 {
     buf.push(MicroOp::Spread {
         from: group.first + register / group.times,
@@ -78,7 +76,7 @@ pub(crate) fn emit_first<W: Width>(
     requires room { laid_length (operands_of recipe i.now cfg.now).a W.BITS ≤ buf.old.spare }
     ensures ops { buf.new.ops ≡ buf.old.ops ++ laid_out (operands_of recipe i.now cfg.now).a W.BITS register }
     ensures spare { buf.new.spare + laid_length (operands_of recipe i.now cfg.now).a W.BITS ≡ buf.old.spare }
-    ensures cost { Measured (laid_counts (operands_of recipe i.now cfg.now).a W.BITS) (laid_length (operands_of recipe i.now cfg.now).a W.BITS) (laid_out (operands_of recipe i.now cfg.now).a W.BITS register) }
+    ensures cost { IsLaid (operands_of recipe i.now cfg.now).a W.BITS register }
 {
     match recipe.order {
         Order::Widening => {
@@ -109,9 +107,7 @@ fn emit_wide_second<W: Width>(
     requires room { laid_length (narrow_in_vs1 i.now.form recipe.signs.b cfg.now.vtype.sew i.now.vs1) W.BITS ≤ buf.old.spare }
     ensures ops { buf.new.ops ≡ buf.old.ops ++ laid_out (narrow_in_vs1 i.now.form recipe.signs.b cfg.now.vtype.sew i.now.vs1) W.BITS register }
     ensures spare { buf.new.spare + laid_length (narrow_in_vs1 i.now.form recipe.signs.b cfg.now.vtype.sew i.now.vs1) W.BITS ≡ buf.old.spare }
-    ensures cost { Measured (laid_counts (narrow_in_vs1 i.now.form recipe.signs.b cfg.now.vtype.sew i.now.vs1) W.BITS)
-        (laid_length (narrow_in_vs1 i.now.form recipe.signs.b cfg.now.vtype.sew i.now.vs1) W.BITS)
-        (laid_out (narrow_in_vs1 i.now.form recipe.signs.b cfg.now.vtype.sew i.now.vs1) W.BITS register) }
+    ensures cost { IsLaid (narrow_in_vs1 i.now.form recipe.signs.b cfg.now.vtype.sew i.now.vs1) W.BITS register }
 {
     match i.form {
         Form::V => {
@@ -135,7 +131,7 @@ pub(crate) fn emit_second<W: Width>(
     requires room { laid_length (operands_of recipe i.now cfg.now).b W.BITS ≤ buf.old.spare }
     ensures ops { buf.new.ops ≡ buf.old.ops ++ laid_out (operands_of recipe i.now cfg.now).b W.BITS register }
     ensures spare { buf.new.spare + laid_length (operands_of recipe i.now cfg.now).b W.BITS ≡ buf.old.spare }
-    ensures cost { Measured (laid_counts (operands_of recipe i.now cfg.now).b W.BITS) (laid_length (operands_of recipe i.now cfg.now).b W.BITS) (laid_out (operands_of recipe i.now cfg.now).b W.BITS register) }
+    ensures cost { IsLaid (operands_of recipe i.now cfg.now).b W.BITS register }
 {
     match recipe.order {
         Order::Widening => emit_wide_second::<W>(recipe, i, cfg, register, buf),
@@ -150,7 +146,7 @@ pub(crate) fn emit_half_second<D: Width>(i: &VInstr, cfg: &Cfg, part: u8, buf: &
     requires room { laid_length (half_in_vs1 i.now.form cfg.now.vtype.sew i.now.vs1) D.BITS ≤ buf.old.spare }
     ensures ops { buf.new.ops ≡ buf.old.ops ++ laid_out (half_in_vs1 i.now.form cfg.now.vtype.sew i.now.vs1) D.BITS part }
     ensures spare { buf.new.spare + laid_length (half_in_vs1 i.now.form cfg.now.vtype.sew i.now.vs1) D.BITS ≡ buf.old.spare }
-    ensures cost { Measured (laid_counts (half_in_vs1 i.now.form cfg.now.vtype.sew i.now.vs1) D.BITS) (laid_length (half_in_vs1 i.now.form cfg.now.vtype.sew i.now.vs1) D.BITS) (laid_out (half_in_vs1 i.now.form cfg.now.vtype.sew i.now.vs1) D.BITS part) }
+    ensures cost { IsLaid (half_in_vs1 i.now.form cfg.now.vtype.sew i.now.vs1) D.BITS part }
 {
     match i.form {
         Form::V => {

@@ -1,0 +1,36 @@
+-- What lists compute and leave, as an operation takes them.
+use Rattle.std.proofs.Common.{◌≡◌, ℕ, ◌≤◌, Bool, false, ◌&&◌, List, refl, sym, subst, arith}
+use Rattle.std.proofs.lemmas.Bool.{ne_eqb}
+use Rattle.gen_shift.specs.Laws.{LeavesValue}
+use Rattle.gen_shift.specs.Rows.{is_among, shift_rows}
+use Rattle.micro_ir.specs.declared.op.MicroOp.{MicroOp}
+use Rattle.micro_ir.specs.Kinds.{Realises}
+use Rattle.micro_ir.specs.WorkRows.{scalar_row}
+use Rattle.micro_ir.proofs.Valued.{realises-same}
+use Rattle.rvv_decode.specs.declared.instruction.VInstr.{VInstr}
+use Rattle.vtype_cfg.specs.declared.configuration.Cfg.{Cfg}
+use Rattle.vtype_cfg.specs.Classes as classes
+use Rattle.rvv_meaning.specs.Operations.{Operation, reads_mask}
+use Rattle.frame_laws.specs.Masks.Programs as masks
+use Rattle.frame_meaning.specs.declared.Order.{Order}
+use Rattle.frame_meaning.specs.Shapes.{width_in, value_by, value_in}
+use Rattle.vec_exec.specs.declared.recipes.Listed.{Listed}
+use Rattle.vec_exec.specs.Recipes.{makes_bits, takes_row, value_of, list_of, Computes}
+
+-- ---- lists
+
+-- a list that computes the operation's value as it takes the operands
+pub lists-compute : (order : Order) (o : Operation) (i : VInstr) (c : Cfg) (list : Listed) (w ra rb rd to : ℕ) → w ≡ width_in order c.vtype.sew → makes_bits list ≡ false → takes_row list ≡ reads_mask i o
+    → ((a b d : ℕ) (m : Bool) → value_of list w a b d m ≡ value_by order o w c.vxrm a b d (reads_mask i o && m))
+    → Computes list w ra rb rd to
+    → Realises w to (reads_mask i o) (λ n m. value_in order i c o (n ra) (n rb) (n rd) m) (list_of list w ra rb rd to)
+unfolding Computes
+lists-compute order o i c list w ra rb rd to wide bits takes same h = realises-same _ _ _ _ _ _ (λ n m small. rw (sym wide, same _ _ _ m) refl) (rw (bits, takes) at h)
+
+-- a list that leaves a value leaves each that is the same
+pub leaves-same : (w row : ℕ) (work : List ℕ) (u v : (ℕ → ℕ) → ℕ) (ops : List MicroOp) → ((n : ℕ → ℕ) → u n ≡ v n) → LeavesValue w row work u ops → LeavesValue w row work v ops
+leaves-same w row work u v ops same leaves = subst (λ (f : (ℕ → ℕ) → ℕ). LeavesValue w row work f ops) (λ z n. same n z) leaves
+
+-- no row up to that of the scalar is one that shifts work in
+pub spared : (q : ℕ) → q ≤ scalar_row → is_among shift_rows q ≡ false
+spared q small = rw (ne_eqb q 49 (omega arith), ne_eqb q 37 (omega arith), ne_eqb q 40 (omega arith), ne_eqb q 38 (omega arith), ne_eqb q 39 (omega arith)) refl
