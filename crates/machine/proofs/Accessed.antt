@@ -10,7 +10,7 @@ use Rattle.rvv_decode.specs.declared.instruction.VOp.TheVariants.{Opi, Opm, Conf
 use Rattle.vtype_cfg.specs.declared.configuration.Cfg.{Cfg}
 use Rattle.vtype_cfg.specs.Settings.{is_valid, vlmax}
 use Rattle.rvv_meaning.specs.Elementwise.{is_ones}
-use Rattle.rvv_meaning.specs.LoadsAndStores.{Outcome, cfg_after, loads, stores, unchanged, outcome_by, outcome}
+use Rattle.rvv_meaning.specs.LoadsAndStores.{Outcome, cfg_after, loads, stores, outcome_by, outcome}
 use Rattle.rvv_meaning.specs.Scalar.{load_fault, store_fault}
 use Rattle.rvv_meaning.specs.States.{Core, cfg_at, vtype_at, after_flow, with_vector_effect, executed_vector, vector_effect_at}
 use Rattle.rvv_meaning.specs.VectorAccesses.{access_of, is_store, reads_memory, writes_memory}

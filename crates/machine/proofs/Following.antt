@@ -50,4 +50,3 @@ registers-follow a b keeps =
             let columns : b.columns ≡ a.columns = keeps.columns in
             let none : placed b.columns sub col ≡ false = rw columns there in
             rw (none, there) refl
-

@@ -1,6 +1,5 @@
-use Rattle.std.proofs.Common.{◌≡◌, ap}
+use Rattle.std.proofs.Common.{ap}
 use Rattle.cape_io.specs.Views.{devices}
-use Rattle.rvv_meaning.specs.States.{Core}
 use Rattle.rvv_meaning.proofs.Allowing.{step-allowed}
 use Rattle.machine.specs.Moments.{Held}
 use Rattle.machine.proofs.Showing.{goes_carried, faults_failed, carries_forgotten}
