@@ -1,7 +1,6 @@
 -- A machine that trapped in a load or a store goes on.
-use Rattle.std.proofs.Common.{◌≡◌, ℕ, ◌+◌, ◌^◌, ◌<◌, Bool, true, false, cond, ◌||◌, IsTrue, List, [], ◌∷◌, Option, Some, None, is_some, refl, sym, ◌∙◌, ap, arith, ⊎_elim}
+use Rattle.std.proofs.Common.{◌≡◌, ℕ, Bool, true, false, ◌||◌, List, [], ◌∷◌, Option, Some, None, is_some, refl, sym, ◌∙◌, ap, arith, ⊎_elim}
 use Rattle.std.specs.Prelude.{slice_index, if◌then◌else◌}
-use Rattle.std.specs.List.{fold}
 use Rattle.std.proofs.lemmas.Bool.{or_cases, false≢true}
 use Rattle.guest_mem.specs.Mapping.{SamePerms}
 use Rattle.guest_mem.specs.Pages.{Pages, first_bad, loaded, with_page, written}
@@ -9,28 +8,25 @@ use Rattle.guest_mem.proofs.Mapping.{bad-by-perms, range-same, same-written}
 use Rattle.rv32_decode.specs.declared.instruction.Instr.{Instr}
 use Rattle.rv32_decode.specs.Rows.{means}
 use Rattle.rvv_decode.specs.Rows.{means as means_vector}
-use Rattle.rvv_decode.specs.declared.instruction.MemoryOp.{MemoryOp}
 use Rattle.rvv_decode.specs.declared.instruction.VInstr.{VInstr}
 use Rattle.rvv_decode.specs.declared.instruction.VOp.{VOp}
 use Rattle.rvv_decode.specs.declared.instruction.VOp.TheVariants.{Opi, Opm, Config, Memory}
 use Rattle.vtype_cfg.specs.declared.configuration.Cfg.{Cfg}
 use Rattle.vtype_cfg.specs.Legality.{is_legal}
-use Rattle.rvv_meaning.specs.declared.Meaning.TheVariants.{Scalar, Vector}
-use Rattle.rvv_meaning.specs.declared.Mode.{Mode}
-use Rattle.rvv_meaning.specs.declared.Mode.TheVariants.{Running, Exited, Trapped, Unbuilt}
-use Rattle.rvv_meaning.specs.declared.Next.{Next}
+use Rattle.rvv_meaning.specs.declared.Meaning.TheVariants.{Vector}
+use Rattle.rvv_meaning.specs.declared.Mode.TheVariants.{Running, Unbuilt}
 use Rattle.rvv_meaning.specs.declared.Next.TheVariants.{Stop, Perform}
 use Rattle.rvv_meaning.specs.declared.accesses.Access.{Access}
 use Rattle.rvv_meaning.specs.Elementwise.{is_ones}
-use Rattle.rvv_meaning.specs.LoadsAndStores.{Outcome, address, bytes_of, stored_all, pages_stored, loads, stores, unchanged, outcome_by, outcome}
-use Rattle.rvv_meaning.specs.States.{Core, cfg_at, vtype_at, trap, next, next_for, next_scalar, next_vector, execute, word_size, fetch_fault, core_after, after_flow, with_vector_effect, executed_vector, is_running}
+use Rattle.rvv_meaning.specs.LoadsAndStores.{Outcome, address, bytes_of, stored_all, pages_stored, loads, stores, outcome_by, outcome}
+use Rattle.rvv_meaning.specs.States.{Core, cfg_at, vtype_at, trap, next, next_for, next_scalar, next_vector, execute, word_size, fetch_fault, core_after, after_flow, executed_vector, is_running}
 use Rattle.rvv_meaning.specs.VectorAccesses.{access_of, is_store, reads_memory, writes_memory}
 use Rattle.rvv_meaning.specs.Vectors.{is_built, flow_after, access_effect}
 use Rattle.vec_mem.specs.Resumption.{GoesOn}
 use Rattle.vec_mem.proofs.GoingOn.{resume_law as access_law}
 use Rattle.vec_mem.proofs.Restoring.{added-extends}
 use Rattle.machine.specs.Resuming.{resumed, mapped, TrapsAtAccess, ResumeLaw}
-use Rattle.machine.proofs.Accessed.{Keeps, outcome-keeps, NameOf, name-of-load, name-of-store, left, left_with, executed-is}
+use Rattle.machine.proofs.Accessed.{Keeps, outcome-keeps, NameOf, name-of-load, name-of-store, left, executed-is}
 
 -- ---- what comes at pc
 
@@ -252,9 +248,13 @@ module _ (c : Core) (i : VInstr) (q : ℕ) (h : TrapsAtAccess c i) (nm : Named i
       let fault : left_again.fault ≡ left_whole.fault = ap (λ (o : Outcome). o.fault) going ∙ law.once.fault in
       (λ z. ran (cfg z).vstart (cfg z).vl (pages z) (vectors z) (fault z)) ∙ ran-whole left_whole.fault
 
-  goes-on : core_after (mapped q (resumed (core_after c []))) [] ≡ core_after whole []
+  goes-on : (taken : List ℕ) → core_after (mapped q (resumed (core_after c []))) taken ≡ core_after whole []
   unfolding core_after
-  goes-on = rw goes (rw (next-again, next-whole) (executed-after again ∙ same ∙ sym (executed-after whole)))
+  goes-on taken = rw goes (rw (next-again, next-whole) (executed-after again ∙ same ∙ sym (executed-after whole)))
+
+-- whatever bytes the step took: it asks for none
+pub resumed-step : (c : Core) (i : VInstr) (q : ℕ) (taken : List ℕ) → TrapsAtAccess c i → core_after (mapped q (resumed (core_after c []))) taken ≡ core_after (mapped q c) []
+resumed-step c i q taken h = goes-on c i q h (named i h.moves) taken
 
 pub resume_law : ResumeLaw
-resume_law c i q h = goes-on c i q h (named i h.moves)
+resume_law c i q h = resumed-step c i q [] h

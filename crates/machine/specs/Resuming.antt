@@ -40,6 +40,11 @@ pub record TrapsAtAccess (c : Core) (i : VInstr) : Type 0 where
   pub traps : is_running (core_after c []).mode ≡ false
   pub word : loaded (core_after c []).mem.pages c.pc word_size ≡ loaded c.mem.pages c.pc word_size
 
+-- A machine that trapped so, from which a page was mapped and which runs again, came by a step from the first core to the second:
+-- that is where one step comes that has the page mapped before.
+abbrev pub StepsOn : Core → Core → Type 0
+StepsOn old new = (c : Core) (i : VInstr) (address : ℕ) → TrapsAtAccess c i → old ≡ mapped address (resumed (core_after c [])) → new ≡ core_after (mapped address c) []
+
 -- Such a machine, from which a page was mapped and which runs again, comes by its next step to where one step comes that has the
 -- page mapped before.
 abbrev pub ResumeLaw : Type 0
