@@ -10,7 +10,7 @@ use Rattle.rvv_decode.specs.declared.instruction.VOp.TheVariants.{Opi, Opm, Conf
 use Rattle.vtype_cfg.specs.declared.configuration.Cfg.{Cfg}
 use Rattle.vtype_cfg.specs.Settings.{is_valid, vlmax}
 use Rattle.rvv_meaning.specs.Elementwise.{is_ones}
-use Rattle.rvv_meaning.specs.LoadsAndStores.{Outcome, cfg_after, loads, stores, unchanged, outcome_by, outcome}
+use Rattle.rvv_meaning.specs.LoadsAndStores.{Outcome, cfg_after, loads, stores, outcome_by, outcome}
 use Rattle.rvv_meaning.specs.Scalar.{load_fault, store_fault}
 use Rattle.rvv_meaning.specs.States.{Core, cfg_at, vtype_at, after_flow, with_vector_effect, executed_vector, vector_effect_at}
 use Rattle.rvv_meaning.specs.VectorAccesses.{access_of, is_store, reads_memory, writes_memory}
@@ -27,18 +27,19 @@ use Rattle.machine.specs.Moments.{Held}
 pub record Keeps (reads writes : Bool) (c : Cfg) (v : List (List ℕ)) (p : Pages) (o : Outcome) : Type 0 where
   pub vtype : o.cfg.vtype ≡ c.vtype
   pub vlen : o.cfg.vlen ≡ c.vlen
+  pub cfg : o.cfg ≡ record c { vstart = o.cfg.vstart; vl = o.cfg.vl }
   pub pages : reads ≡ true → o.pages ≡ p
   pub vectors : writes ≡ true → (ones : ℕ → Bool) → o.vectors ones ≡ v
 
 module _ (i : VInstr) (c : Cfg) (base stride : ℕ) (v : List (List ℕ)) (p : Pages) where
   keeps-by : (op : VOp) → Keeps (reads_memory op) (writes_memory op) c v p (outcome_by op i c base stride v p)
   unfolding loads stores cfg_after
-  keeps-by (Opi op) = record { vtype = refl; vlen = refl; pages = λ never. refl; vectors = λ never ones. refl }
-  keeps-by (Opm op) = record { vtype = refl; vlen = refl; pages = λ never. refl; vectors = λ never ones. refl }
-  keeps-by (Config op) = record { vtype = refl; vlen = refl; pages = λ never. refl; vectors = λ never ones. refl }
+  keeps-by (Opi op) = record { vtype = refl; vlen = refl; cfg = refl; pages = λ never. refl; vectors = λ never ones. refl }
+  keeps-by (Opm op) = record { vtype = refl; vlen = refl; cfg = refl; pages = λ never. refl; vectors = λ never ones. refl }
+  keeps-by (Config op) = record { vtype = refl; vlen = refl; cfg = refl; pages = λ never. refl; vectors = λ never ones. refl }
   keeps-by (Memory op) = elim (is_store op) as (λ b. Keeps (not b) b c v p (if b then stores c (access_of op i c stride) base v p else loads c (access_of op i c stride) base v p)) [
-    | true ↦ record { vtype = refl; vlen = refl; pages = λ never. absurd (false≢true never); vectors = λ is ones. refl }
-    | false ↦ record { vtype = refl; vlen = refl; pages = λ is. refl; vectors = λ never. absurd (false≢true never) }
+    | true ↦ record { vtype = refl; vlen = refl; cfg = refl; pages = λ never. absurd (false≢true never); vectors = λ is ones. refl }
+    | false ↦ record { vtype = refl; vlen = refl; cfg = refl; pages = λ is. refl; vectors = λ never. absurd (false≢true never) }
   ]
 
   pub outcome-keeps : Keeps (reads_memory i.op) (writes_memory i.op) c v p (outcome i c base stride v p)
@@ -66,23 +67,23 @@ name-of-store (Opm op) writes = absurd (false≢true writes)
 name-of-store (Config op) writes = absurd (false≢true writes)
 
 module _ (i : VInstr) (c : Core) (stores_too : Bool) (named : NameOf i.op stores_too) where
-  abbrev left : Outcome
+  abbrev pub left : Outcome
   left = outcome i (cfg_at c) (slice_index c.regs i.vs1) (slice_index c.regs i.vs2) c.vectors c.mem.pages
 
-  abbrev op : MemoryOp
+  abbrev pub op : MemoryOp
   op = named.name
 
   -- the machine with what was moved
   abbrev pub moved_core : Core
   moved_core = record c { mem = record c.mem { pages = left.pages }; vectors = left.vectors (λ element. is_ones c.policy) }
 
-  abbrev left_with : VectorEffect → Core
+  abbrev pub left_with : VectorEffect → Core
   left_with e = after_flow e.flow (with_vector_effect e c) []
 
   effect-is : (o : VOp) → o ≡ Memory op → effect_by i c.pc c.regs c.csrs c.mem c.vectors c.policy o ≡ access_effect i c.pc c.regs c.csrs c.mem c.vectors c.policy op
   effect-is o is = rw is refl
 
-  executed-is : executed_vector i c ≡ left_with (access_effect i c.pc c.regs c.csrs c.mem c.vectors c.policy op)
+  pub executed-is : executed_vector i c ≡ left_with (access_effect i c.pc c.regs c.csrs c.mem c.vectors c.policy op)
   unfolding vector_effect
   executed-is = ap left_with (effect-is i.op named.is)
 

@@ -1,5 +1,5 @@
 -- What a replay of a whole program leaves in the slices and in the registers.
-use Rattle.std.proofs.Common.{◌≡◌, ℕ, ◌*◌, false, List, Option, Some, length, take, refl, sym, ◌∙◌, ap}
+use Rattle.std.proofs.Common.{◌≡◌, ℕ, ◌*◌, false, List, Some, length, take, refl, ◌∙◌, ap}
 use Rattle.std.proofs.Math.Seq.{take-length}
 use Rattle.bit_rows.specs.Slices.{Slices}
 use Rattle.cam_chain.specs.ChainValue.{ChainValue, slices_of}

@@ -10,3 +10,4 @@ pub mod Engine
 pub mod Configurations
 pub mod Accessed
 pub mod Following
+pub mod GoingOn

@@ -3,7 +3,7 @@ use Rattle.std.proofs.Common.{◌≡◌, ℕ, Bool, true, false, List, [], ◌++
 use Rattle.std.specs.Io.KnownBytes.{Appends}
 use Rattle.std.proofs.lemmas.List.{take-append-drop, append_cancel_left}
 use Rattle.cape_io.specs.Devices.{AppendsPrefix}
-use Rattle.cape_io.specs.Views.{DeviceViews, Devices}
+use Rattle.cape_io.specs.Views.{Devices}
 use Rattle.rvv_meaning.specs.States.{State, step, asked, core_after}
 use Rattle.guest_env.specs.Inputs.{Takes}
 use Rattle.machine.specs.Moments.{Held, moment_after}

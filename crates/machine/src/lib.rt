@@ -12,3 +12,4 @@ mod vectors;
 
 pub use answers::{DeviceFault, Step};
 pub use parts::Machine;
+pub use resuming::resume_law;

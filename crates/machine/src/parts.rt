@@ -41,7 +41,7 @@ const VILL: u32 = 0x8000_0000;
 // The bytes of a word.
 pub(crate) const WORD_BYTES: u32 = 4;
 
-/// A machine with its guest's memory, its slices and the program of its last step. After `new` no call takes memory.
+/// A machine with its guest's memory, its slices and the program of its last step. After `new` only `map` takes memory.
 #[derive(Drop)]
 pub struct Machine {
     pub(crate) regs: Regs,

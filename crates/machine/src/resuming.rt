@@ -2,7 +2,7 @@
 ghost use Rattle.std.specs.Prelude.{◌≡◌, IfOk, OnOk, OnErr, is_none};
 ghost use Rattle.std.specs.FinMap as finite;
 ghost use Rattle.guest_mem.specs.Pages.{page_of};
-ghost use Rattle.machine.specs.Resuming.{resumed, mapped};
+ghost use Rattle.machine.specs.Resuming.{resumed, mapped, ResumeLaw};
 
 use crate::parts::Machine;
 use rvv_meaning::Mode;
@@ -28,3 +28,9 @@ impl Machine {
         self.mem.map(alloc, address)
     }
 }
+
+/// A machine that trapped at a load or a store goes on: once a page was mapped and it runs again, its next step comes to where
+/// one step comes that has the page mapped before.
+pub fn resume_law()
+    ensures law { ResumeLaw }
+{}

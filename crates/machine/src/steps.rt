@@ -11,6 +11,7 @@ ghost use Rattle.guest_env.specs.Outputs.{IsWritten};
 ghost use Rattle.guest_env.specs.Answers.{IsWriting};
 ghost use Rattle.machine.specs.Answers.{step_for};
 ghost use Rattle.machine.specs.Moments.{moment_after, moments};
+ghost use Rattle.machine.specs.Resuming.{StepsOn};
 ghost use Rattle.machine.specs.Views.{CallsAt, GoesBy, FaultsIn, ReadsIn, StandsIn, EachStep, AsksNothing, AddsNoOut, AddsNoErr, gains_out, gains_err};
 ghost use Rattle.machine.specs.Carrying.{Carries, Calls, Fails, OneFault, LeavesAllowed, call_asked, call_out, call_err};
 
@@ -195,6 +196,9 @@ impl Machine {
 
         // Agnostic elements are as the standard permits, whatever the policy is.
         ensures allowed { OnOk result (LeavesAllowed self.old.core self.new.core (S.left input.old) (S.left input.new)) }
+
+        // A load or a store that trapped goes on.
+        ensures resumes { OnOk result (StepsOn self.old.core self.new.core) }
 
         // The moment after is that of one step from the moment before.
         ensures goes { OnOk result (GoesBy moment_after merged self.old self.new (devices S.Source O.Sink E.Sink input.old input.new out.old out.new err.old err.new)) }

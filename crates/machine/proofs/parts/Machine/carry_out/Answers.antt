@@ -2,7 +2,7 @@ use Rattle.std.proofs.Common.{◌≡◌, ◌∙◌, sym, ap, []}
 use Rattle.cape_io.specs.Views.{views}
 use Rattle.rvv_meaning.specs.States.{next}
 use Rattle.rvv_meaning.specs.declared.Meaning.TheVariants.{Vector}
-use Rattle.rvv_meaning.specs.declared.Next.TheVariants.{Stop, Perform}
+use Rattle.rvv_meaning.specs.declared.Next.TheVariants.{Perform}
 use Rattle.machine.proofs.Carried.{emptied, carries-stop, stop-quiet, vector-quiet, quiet-out, quiet-err}
 use Rattle.machine.proofs.parts.Machine.carry_out.Goals as goal
 

@@ -1,4 +1,4 @@
-use Rattle.std.proofs.Common.{refl, sym, ◌∙◌}
+use Rattle.std.proofs.Common.{refl, ◌∙◌}
 use Rattle.rvv_meaning.specs.Vectors.{configuration_effect}
 use Rattle.machine.proofs.Configurations.{configured-is}
 use Rattle.machine.proofs.parts.Machine.configure.Goals as goal

@@ -1,8 +1,8 @@
-use Rattle.std.proofs.Common.{◌≡◌, [], refl, sym, ◌∙◌, ap}
-use Rattle.cam_chain.specs.ChainValue.{ChainValue, slices_of}
+use Rattle.std.proofs.Common.{◌≡◌, refl, sym, ◌∙◌, ap}
+use Rattle.cam_chain.specs.ChainValue.{slices_of}
 use Rattle.cam_chain.specs.Views.{registers_of}
 use Rattle.rvv_meaning.specs.States.{Core, cfg_at}
-use Rattle.machine.specs.Moments.{Held, with_registers}
+use Rattle.machine.specs.Moments.{Held}
 use Rattle.machine.proofs.Accessed.{cfg-left, load-ended, load-registers, rest-of}
 use Rattle.machine.proofs.Carried.{carries-load}
 use Rattle.machine.proofs.Following.{registers-follow}

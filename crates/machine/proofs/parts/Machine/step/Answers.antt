@@ -1,8 +1,9 @@
-use Rattle.std.proofs.Common.{◌≡◌, ap}
+use Rattle.std.proofs.Common.{◌∙◌, ap}
 use Rattle.cape_io.specs.Views.{devices}
-use Rattle.rvv_meaning.specs.States.{Core}
 use Rattle.rvv_meaning.proofs.Allowing.{step-allowed}
+use Rattle.rvv_meaning.specs.States.{Core, core_after}
 use Rattle.machine.specs.Moments.{Held}
+use Rattle.machine.proofs.GoingOn.{resumed-step}
 use Rattle.machine.proofs.Showing.{goes_carried, faults_failed, carries_forgotten}
 use Rattle.machine.proofs.parts.Machine.step.Goals as goal
 
@@ -23,6 +24,11 @@ pub returns-in-Ok-clause-allowed : goal.returns-in-Ok-clause-allowed
 returns-in-Ok-clause-allowed g c =
     let w = rw c.forget.ensures at c.in-Ok.ensures.carries in
     (w.0, w.1.took, rw w.1.core (step-allowed c.args.self.now.core w.0))
+
+pub returns-in-Ok-clause-resumes : goal.returns-in-Ok-clause-resumes
+returns-in-Ok-clause-resumes g c = λ before i address traps is.
+    let w = rw c.forget.ensures at c.in-Ok.ensures.carries in
+    w.1.core ∙ ap (λ (k : Core). core_after k w.0) is ∙ resumed-step before i address w.0 traps
 
 pub returns-in-Ok-clause-quiet : goal.returns-in-Ok-clause-quiet
 returns-in-Ok-clause-quiet g c = record { input = c.in-Ok.ensures.carries.1.quiet; out = c.in-Ok.ensures.to_out.counts; err = c.in-Ok.ensures.to_err.counts }

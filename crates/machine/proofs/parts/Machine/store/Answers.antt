@@ -1,5 +1,5 @@
-use Rattle.std.proofs.Common.{◌≡◌, [], refl, sym, ◌∙◌, ap}
-use Rattle.cam_chain.specs.ChainValue.{ChainValue, slices_of}
+use Rattle.std.proofs.Common.{◌≡◌, refl, sym, ◌∙◌, ap}
+use Rattle.cam_chain.specs.ChainValue.{slices_of}
 use Rattle.cam_chain.specs.Views.{registers_of}
 use Rattle.rvv_meaning.specs.States.{Core, cfg_at}
 use Rattle.machine.specs.Moments.{Held}
