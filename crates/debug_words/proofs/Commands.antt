@@ -1,7 +1,9 @@
 -- The command of a line, by its first piece.
-use Rattle.std.proofs.Common.{◌≡◌, ℕ, ◌<◌, ◌≤◌, true, false, List, [], ◌∷◌, length, take, drop, Option, Some, None, refl, ◌∙◌, sym, ap, arith}
+use Rattle.std.proofs.Common.{◌≡◌, ℕ, ◌<◌, ◌≤◌, true, false, List, [], ◌∷◌, length, take, drop, Option, Some, None, refl, ◌∙◌, sym, ap, arith, ◌⊎◌, inl, inr}
 use Rattle.std.specs.Prelude.{◌==◌, nat_lt}
+use Rattle.std.proofs.lemmas.Bool.{cases_lt}
 use Rattle.std.proofs.lemmas.Bool.Decides.{nat_tests}
+use Rattle.std.proofs.lemmas.List.{take_all, length-take}
 use Rattle.debug_words.specs.declared.command.Command.TheVariants.{Empty, NoForm}
 use Rattle.debug_words.specs.declared.numbers.Numbers.{Numbers}
 use Rattle.debug_words.specs.declared.numbers.Numbers.TheVariants.{Zero}
@@ -47,3 +49,11 @@ module _ (line : List ℕ) (n : ℕ) (first : pieces line ≡ take n line ∷ pi
   pub named : (name : Name) (numbers : Option Numbers) → false ≡ (length line == 0) → length line ≤ 255 → Some name ≡ name_among (take n line) names → numbers ≡ numbers_after Zero (pieces_after (from n line))
       → command_named name numbers ≡ command_of line
   named name numbers some short is are = ap (command_named name) are ∙ is_named _ _ name is ∙ sym (by_pieces some short)
+
+-- a line of which the first 256 bytes are kept has the same command: where more stood there, it is too long
+pub command_kept : (line : List ℕ) → command_of (take 256 line) ≡ command_of line
+command_kept line = by (cases_lt (length line) 256)
+  where
+    by : (length line < 256) ⊎ (256 ≤ length line) → command_of (take 256 line) ≡ command_of line
+    by (inl short) = ap command_of (take_all 256 line (omega arith))
+    by (inr long) = sym (long_line (take 256 line) (omega (arith, length-take 256 line))) ∙ long_line line (omega arith)

@@ -1,2 +1,3 @@
 -- What the lines of a session are.
+pub mod Lines
 pub mod Grammar

@@ -3,7 +3,9 @@
 
 mod command;
 mod numbers;
+mod reader;
 mod words;
 
 pub use command::Command;
+pub use reader::{CommandLine, Reader};
 pub use words::command_of;

@@ -18,7 +18,7 @@ const MOST_STEPS: u32 = 1_000_000;
 const MOST_CONT: u32 = 1_000_000_000;
 
 // The most bytes of memory that a line shows.
-const MOST_BYTES: u32 = 64;
+const MOST_SHOWN: u32 = 64;
 
 const LAST_REGISTER: u32 = 31;
 
@@ -179,7 +179,7 @@ fn with_two(name: Name, first: u64, second: u64) -> Option<Command>
     match name {
         Name::Mem => Some(Command::Mem(
             ranged(0, u32::MAX, first)?,
-            ranged(1, MOST_BYTES, second)?,
+            ranged(1, MOST_SHOWN, second)?,
         )),
         Name::Slice => {
             let subarray = ranged(0, LAST_SUBARRAY, first)? as u8;

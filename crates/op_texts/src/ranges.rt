@@ -1,5 +1,5 @@
 //! Which operations a chain can run.
-ghost use Rattle.std.specs.Prelude.{◌≡◌, ◌≤◌, true};
+ghost use Rattle.std.specs.Prelude.{◌≡◌, ◌<◌, ◌/◌, true};
 ghost use Rattle.steer_net.specs.Moves.{GroupReaches, is_wide};
 ghost use Rattle.steer_net.specs.Network.{is_width, PackReaches};
 ghost use Rattle.micro_ir.specs.Replay.{IsInRange, AllInRange};

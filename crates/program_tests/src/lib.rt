@@ -12,9 +12,10 @@ mod kinds;
 #[cfg(test)]
 mod lists;
 #[cfg(test)]
+mod operations;
+#[cfg(test)]
 mod pieces;
 #[cfg(test)]
 mod plans;
-#[cfg(test)]
 #[cfg(test)]
 mod runs;

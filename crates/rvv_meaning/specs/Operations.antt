@@ -1,17 +1,18 @@
 -- Operations whose elements are computed from elements at the same place: their values and their operands (vector extension
 -- 1.0, sections 10.1, 11 and 12).
-use Rattle.std.specs.Prelude.{ℕ, ◌+◌, ◌-◌, ◌*◌, ◌/◌, ◌^◌, Bool, true, false, cond, not, ◌&&◌, eqb, ℤ, pos, negsuc, int_lt, int_le, bit_and, bit_or, bit_xor, List, Option, None, Some}
-use Rattle.std.specs.Int.{from_bool, int_shr}
+use Rattle.std.specs.Prelude.{ℕ, ◌+◌, ◌-◌, ◌*◌, ◌/◌, ◌%◌, ◌^◌, Bool, true, false, cond, not, ◌&&◌, eqb, ℤ, pos, negsuc, ◌*ℤ◌, int_lt, int_le, int_div, int_rem, bit_and, bit_or, bit_xor, List, Option, None, Some}
+use Rattle.std.specs.Int.{from_bool, int_shr, int_div_euclid}
 use lib.Dec.{ltb, leb}
 use Rattle.bit_laws.specs.Numbers.{low}
 use Rattle.bit_laws.specs.Signed.{signed, extended}
 use Rattle.element_ops.specs.Elements.{element_of, mask_bit_of}
 use Rattle.rvv_decode.specs.declared.instruction.VInstr.{VInstr}
 use Rattle.rvv_decode.specs.declared.instruction.VOp.{VOp}
-use Rattle.rvv_decode.specs.declared.instruction.VOp.TheVariants.{Opi}
+use Rattle.rvv_decode.specs.declared.instruction.VOp.TheVariants.{Opi, Opm}
 use Rattle.rvv_decode.specs.declared.instruction.Form.{Form}
 use Rattle.rvv_decode.specs.declared.instruction.Form.TheVariants.{V, X, I}
 use Rattle.rvv_decode.specs.declared.instruction.OpiOp.TheVariants.{Vadd, Vsub, Vrsub, Vadc, Vsbc, Vmadc, Vmsbc, Vand, Vor, Vxor, Vsll, Vsrl, Vsra, Vmseq, Vmsne, Vmsltu, Vmslt, Vmsleu, Vmsle, Vmsgtu, Vmsgt, Vminu, Vmin, Vmaxu, Vmax, Vmerge, VmvV}
+use Rattle.rvv_decode.specs.declared.instruction.OpmOp.TheVariants.{Vdivu, Vdiv, Vremu, Vrem, Vmulhu, Vmul, Vmulhsu, Vmulh, Vmadd, Vnmsub, Vmacc, Vnmsac}
 use Rattle.vtype_cfg.specs.declared.configuration.Cfg.{Cfg}
 use Rattle.vtype_cfg.specs.Classes.{Row, class_of, row_of, width_at, count_at, is_mask_place}
 use Rattle.rvv_meaning.specs.Elementwise.{Elementwise, size_of}
@@ -19,8 +20,9 @@ use Rattle.rvv_meaning.specs.Elementwise.{Elementwise, size_of}
 -- ---- values
 
 -- Each takes w, the width of an element in bits, and then the operands that it reads: a, the element of vs2, and b, the
--- element of vs1, the scalar or the immediate, all below 2^w; and where the mask is an operand, the element's mask bit m. A
--- value may be 2^w or more: what writes it takes it at w bits. That of a comparison or of a carry out is a bit of a mask.
+-- element of vs1, the scalar or the immediate, all below 2^w; where the destination is an operand, its element d as it was;
+-- and where the mask is one, the element's mask bit m. A value may be 2^w or more: what writes it takes it at w bits. That
+-- of a comparison or of a carry out is a bit of a mask.
 
 -- the sum (section 11.1)
 abbrev pub vadd : (w a b : ℕ) → ℕ
@@ -130,6 +132,57 @@ vmaxu w a b = cond (ltb a b) b a
 abbrev pub vmax : (w a b : ℕ) → ℕ
 vmax w a b = cond (int_lt (signed w a) (signed w b)) b a
 
+-- the high half of a product with a sign, rounded down, modulo 2^w
+abbrev pub high_half : (w : ℕ) → ℤ → ℕ
+high_half w product = low_int w (int_div_euclid product (pos (2 ^ w)))
+
+-- the product (section 11.10)
+abbrev pub vmul : (w a b : ℕ) → ℕ
+vmul w a b = a * b
+
+-- its high half, without signs (section 11.10)
+abbrev pub vmulhu : (w a b : ℕ) → ℕ
+vmulhu w a b = a * b / 2 ^ w
+
+-- its high half, with signs (section 11.10)
+abbrev pub vmulh : (w a b : ℕ) → ℕ
+vmulh w a b = high_half w (signed w a *ℤ signed w b)
+
+-- its high half, of an a with a sign and a b without one (section 11.10)
+abbrev pub vmulhsu : (w a b : ℕ) → ℕ
+vmulhsu w a b = high_half w (signed w a *ℤ pos b)
+
+-- the quotient, without signs; by 0 it is all ones (section 11.11)
+abbrev pub vdivu : (w a b : ℕ) → ℕ
+vdivu w a b = cond (eqb b 0) (2 ^ w - 1) (a / b)
+
+-- the quotient with signs, rounded towards zero; by 0 it is all ones, and the least number by -1 is that number modulo 2^w
+-- (section 11.11)
+abbrev pub vdiv : (w a b : ℕ) → ℕ
+vdiv w a b = cond (eqb b 0) (2 ^ w - 1) (low_int w (int_div (signed w a) (signed w b)))
+
+-- the remainder, without signs; by 0 it is a (section 11.11)
+abbrev pub vremu : (w a b : ℕ) → ℕ
+vremu w a b = cond (eqb b 0) a (a % b)
+
+-- the remainder with signs, which has the sign of a; by 0 it is a, and that of the least number by -1 is 0 (section 11.11)
+abbrev pub vrem : (w a b : ℕ) → ℕ
+vrem w a b = cond (eqb b 0) a (low_int w (int_rem (signed w a) (signed w b)))
+
+-- the product of b and a added to d, and taken from d, modulo 2^w (section 11.13)
+abbrev pub vmacc : (w a b d : ℕ) → ℕ
+vmacc w a b d = b * a + d
+
+abbrev pub vnmsac : (w a b d : ℕ) → ℕ
+vnmsac w a b d = d + (2 ^ w - low w (b * a))
+
+-- the product of b and d added to a, and taken from a, modulo 2^w (section 11.13)
+abbrev pub vmadd : (w a b d : ℕ) → ℕ
+vmadd w a b d = b * d + a
+
+abbrev pub vnmsub : (w a b d : ℕ) → ℕ
+vnmsub w a b d = a + (2 ^ w - low w (b * d))
+
 -- one of the two by the mask bit (section 11.15)
 abbrev pub vmerge : (w a b : ℕ) → Bool → ℕ
 vmerge w a b m = cond m b a
@@ -180,6 +233,10 @@ unsigned_immediate value = record (of_two value) { signed_immediate = false }
 -- an operation on these and the mask bit
 abbrev pub of_two_and_mask : ((w a b : ℕ) → Bool → ℕ) → Operation
 of_two_and_mask value = record (of_two (λ w a b. 0)) { takes_mask = true; value = λ w mode a b d m. value w a b m }
+
+-- an operation on these and the element of the destination
+abbrev pub of_three : ((w a b d : ℕ) → ℕ) → Operation
+of_three value = record (of_two (λ w a b. 0)) { takes_old = true; value = λ w mode a b d m. value w a b d }
 
 -- the mask is an operand of the instruction
 abbrev pub reads_mask : VInstr → Operation → Bool
@@ -263,4 +320,16 @@ operation_for (Opi Vmaxu) = Some (of_two vmaxu)
 operation_for (Opi Vmax) = Some (of_two vmax)
 operation_for (Opi Vmerge) = Some (of_two_and_mask vmerge)
 operation_for (Opi VmvV) = Some (of_two vmv)
+operation_for (Opm Vmul) = Some (of_two vmul)
+operation_for (Opm Vmulh) = Some (of_two vmulh)
+operation_for (Opm Vmulhu) = Some (of_two vmulhu)
+operation_for (Opm Vmulhsu) = Some (of_two vmulhsu)
+operation_for (Opm Vdivu) = Some (of_two vdivu)
+operation_for (Opm Vdiv) = Some (of_two vdiv)
+operation_for (Opm Vremu) = Some (of_two vremu)
+operation_for (Opm Vrem) = Some (of_two vrem)
+operation_for (Opm Vmacc) = Some (of_three vmacc)
+operation_for (Opm Vnmsac) = Some (of_three vnmsac)
+operation_for (Opm Vmadd) = Some (of_three vmadd)
+operation_for (Opm Vnmsub) = Some (of_three vnmsub)
 operation_for _ = None

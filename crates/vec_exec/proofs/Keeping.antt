@@ -10,7 +10,7 @@ use Rattle.rvv_decode.specs.declared.instruction.VInstr.{VInstr}
 use Rattle.vtype_cfg.specs.declared.configuration.Cfg.{Cfg}
 use Rattle.rvv_meaning.specs.Elementwise.{is_ones}
 use Rattle.vec_exec.specs.declared.recipes.Listed.{Listed}
-use Rattle.vec_exec.specs.declared.recipes.Listed.TheVariants.{Bits, Sums, Truths, Choices, Shifts}
+use Rattle.vec_exec.specs.declared.recipes.Listed.TheVariants.{Bits, Sums, Truths, Choices, Shifts, Products, Divisions}
 use Rattle.vec_exec.specs.declared.recipes.Recipe.{Recipe}
 use Rattle.frame_meaning.specs.Shapes.{has_scalar}
 use Rattle.vec_exec.specs.Recipes.{list_of}
@@ -28,6 +28,8 @@ list-keep (Sums kind) w a b d to = micros-keep w _
 list-keep (Truths kind) w a b d to = micros-keep w _
 list-keep (Choices kind) w a b d to = micros-keep w _
 list-keep (Shifts kind) w a b d to = micros-keep w _
+list-keep (Products kind) w a b d to = micros-keep w _
+list-keep (Divisions kind) w a b d to = micros-keep w _
 
 scalar-keep : (signed : Bool) (i : VInstr) (c : Cfg) (x : ℕ) → all_keep_control (scalar_list signed i c x) ≡ true
 scalar-keep signed i c x = cond-keep (has_scalar i.form) _ (micros-keep c.vtype.sew _)

@@ -18,6 +18,8 @@ use Rattle.vtype_cfg.specs.Settings.{is_legal_vlen, is_vill_or_supported, is_val
 use Rattle.vtype_cfg.specs.Classes.{class_of, compare}
 use Rattle.vtype_cfg.specs.Legality.{is_legal}
 use Rattle.vtype_cfg.proofs.Lengths.{vlen_from, vlen_words}
+use Rattle.gen_div.specs.Rows.{IsSignedRow}
+use Rattle.gen_div.specs.declared.kinds.Division.TheVariants.{Divu, Remu, Div, Rem}
 use Rattle.legal_groups.specs.Facts.{IsElementWidth, group_count, SameOrApart, SewGroups, MaskGroups}
 use Rattle.legal_groups.proofs.Groups.{legal_plain_law, legal_move_law, legal_compare_law}
 use Rattle.rvv_meaning.specs.Elementwise.{Elementwise, registers_after, clips_below, clips as clips_elements}
@@ -37,8 +39,9 @@ use Rattle.frame_meaning.specs.Masks.{IsTruth, truth_in, compare_operands, compa
 use Rattle.frame_meaning.proofs.Instructions.{elements_meaning_law, elements_cost_law}
 use Rattle.frame_meaning.proofs.Masks.{compare_meaning_law, compare_cost_law}
 use Rattle.vec_exec.specs.declared.recipes.Listed.{Listed}
+use Rattle.vec_exec.specs.declared.recipes.Listed.TheVariants.{Bits, Sums, Truths, Choices, Shifts, Products, Divisions}
 use Rattle.vec_exec.specs.declared.recipes.Recipe.{Recipe}
-use Rattle.vec_exec.specs.Recipes.{recipe_for, makes_bits, takes_row, value_of, truth_of, list_of, counts_of, length_of, Computes}
+use Rattle.vec_exec.specs.Recipes.{recipe_for, makes_bits, takes_row, value_of, truth_of, list_of, counts_of, length_of, Computes, HasDivisionRows}
 use Rattle.vec_exec.specs.Programs.{reads, list_for, kind_list, truth_list, element_program, mask_program, register_list, registers_list, mask_register_list, mask_registers_list, mask_fill_list, scalar_list, IsPlaced, IsMaskPlaced, IsMade, IsMaskMade, RealisesInstruction, prog, program_by, cost, cost_by, masked}
 use Rattle.vec_exec.proofs.Fits.{Traits, Ignores, value_by, Means, Unmasked, Fits}
 use Rattle.vec_exec.proofs.Keeping.{elements-keep, mask-keep}
@@ -78,15 +81,32 @@ groups-in Reversed i c f = f.0
 groups-in Exchanged i c f = f.0
 groups-in Second i c f = f
 
-second-row : (form : Form) (vs1 n g : ℕ) → g < n → (form ≡ V → vs1 + n ≤ 32) → IsOperandRow (row_of (source_in_vs1 form vs1) g)
+second-row : (form : Form) (vs1 n g : ℕ) → g < n → (form ≡ V → vs1 + n ≤ 32) → IsSignedRow (row_of (source_in_vs1 form vs1) g)
 second-row V vs1 n g inside room = let r : vs1 + n ≤ 32 = room refl in inl (omega arith)
-second-row X vs1 n g inside room = inr (inr (inl refl))
-second-row I vs1 n g inside room = inr (inr (inl refl))
+second-row X vs1 n g inside room = inr refl
+second-row I vs1 n g inside room = inr refl
+
+operand-row : (row : ℕ) → IsSignedRow row → IsOperandRow row
+operand-row row (inl register) = inl register
+operand-row row (inr scalar) = inr (inr (inl scalar))
+
+-- rows that a division may take, with signs or without
+division-rows : (list : Listed) (a b : ℕ) → IsSignedRow a → IsSignedRow b → HasDivisionRows list a b
+division-rows (Divisions Divu) a b first second = (operand-row a first, operand-row b second)
+division-rows (Divisions Remu) a b first second = (operand-row a first, operand-row b second)
+division-rows (Divisions Div) a b first second = (first, second)
+division-rows (Divisions Rem) a b first second = (first, second)
+division-rows (Bits kind) a b first second = tt
+division-rows (Sums kind) a b first second = tt
+division-rows (Truths kind) a b first second = tt
+division-rows (Choices kind) a b first second = tt
+division-rows (Shifts kind) a b first second = tt
+division-rows (Products kind) a b first second = tt
 
 -- the rows of the operands for register g
 record Rows (order : Order) (i : VInstr) (g : ℕ) : Type 0 where
-  a : IsOperandRow (row_of (operands_in order i).a g)
-  b : IsOperandRow (row_of (operands_in order i).b g)
+  a : IsSignedRow (row_of (operands_in order i).a g)
+  b : IsSignedRow (row_of (operands_in order i).b g)
   addend : IsOperandRow (row_of (operands_in order i).addend g)
 
 rows-in : (order : Order) (i : VInstr) (c : Cfg) → Facts order i c → (g : ℕ) → g < group_count c.vtype → Rows order i g
@@ -302,9 +322,10 @@ module _ (r : Recipe) (o : Operation) (i : VInstr) (c : Cfg) (x : ℕ) (f : Fits
         few = groups.few;
         placed = λ g inside. let rows = rows-in r.order i c facts g inside in record {
           vd = let room : i.vd + group_count c.vtype ≤ 32 = groups.room in omega arith;
-          a = rows.a;
-          b = rows.b;
+          a = operand-row _ rows.a;
+          b = operand-row _ rows.b;
           addend = rows.addend;
+          division = division-rows (list_for r i) _ _ rows.a rows.b;
         };
       }
 
@@ -315,11 +336,16 @@ module _ (r : Recipe) (o : Operation) (i : VInstr) (c : Cfg) (x : ℕ) (f : Fits
         sew = groups.sew;
         few = groups.few;
         vd = groups.room;
-        placed = λ g inside. record {
-          vd = groups.room;
-          a = let room : i.vs2 + group_count c.vtype ≤ 32 = groups.vs2.0 in inl (omega arith);
-          b = second-row i.form i.vs1 (group_count c.vtype) g inside (λ is. (groups.vs1 is).0);
-        };
+        placed = λ g inside.
+            let room : i.vs2 + group_count c.vtype ≤ 32 = groups.vs2.0 in
+            let first : IsSignedRow (row_of (compare_operands i).a g) = inl (omega arith) in
+            let second = second-row i.form i.vs1 (group_count c.vtype) g inside (λ is. (groups.vs1 is).0) in
+            record {
+              vd = groups.room;
+              a = operand-row _ first;
+              b = operand-row _ second;
+              division = λ list. division-rows list _ _ first second;
+            };
       }
 
   -- SEW is one of the widths

@@ -33,7 +33,7 @@ use Rattle.rvv_meaning.specs.Elementwise.{is_ones, registers_after, clips as cli
 use Rattle.rvv_meaning.specs.Vectors.{Left, elements, number, left_of}
 use Rattle.vec_exec.specs.declared.recipes.Listed.{Listed}
 use Rattle.vec_exec.specs.declared.recipes.Recipe.{Recipe}
-use Rattle.vec_exec.specs.Recipes.{recipe_for, makes_bits, list_of, counts_of, length_of, Computes}
+use Rattle.vec_exec.specs.Recipes.{recipe_for, makes_bits, HasDivisionRows, list_of, counts_of, length_of, Computes}
 
 -- whether an instruction is carried out by a program: not a gather by a vector of indices, a compression, an iota, a move
 -- to a scalar register, a configuration, a load or a store
@@ -179,12 +179,14 @@ pub record IsPlaced (r : Recipe) (i : VInstr) (g : ℕ) : Type 0 where
   pub a : IsOperandRow (row_of (operands_in r.order i).a g)
   pub b : IsOperandRow (row_of (operands_in r.order i).b g)
   pub addend : IsOperandRow (row_of (operands_in r.order i).addend g)
+  pub division : HasDivisionRows (list_for r i) (row_of (operands_in r.order i).a g) (row_of (operands_in r.order i).b g)
 
 -- the rows of the operands of a mask are there
 pub record IsMaskPlaced (i : VInstr) (g : ℕ) : Type 0 where
   pub vd : i.vd < 32
   pub a : IsOperandRow (row_of (compare_operands i).a g)
   pub b : IsOperandRow (row_of (compare_operands i).b g)
+  pub division : (list : Listed) → HasDivisionRows list (row_of (compare_operands i).a g) (row_of (compare_operands i).b g)
 
 -- ---- what a program is for
 

@@ -1,5 +1,5 @@
 use Rattle.std.proofs.Common.{◌≡◌, Bool, true, false, ◌||◌, refl}
-use Rattle.vec_exec.specs.Recipes.{list_of, counts_of, length_of, Computes}
+use Rattle.vec_exec.specs.Recipes.{HasDivisionRows, list_of, counts_of, length_of, Computes}
 use Rattle.vec_exec.proofs.Widths.{log2-is}
 use Rattle.vec_exec.proofs.recipes.emit_list.Goals as goal
 
@@ -52,3 +52,21 @@ unfolding list_of counts_of length_of
 returns-in-Shifts-clause-cost g c =
     let log = log2-is g.W.Width.BITS g.W.Width.LOG g.met.W.Width.power g.met.W.Width.divides g.met.W.Width.least in
     rw (c.in-Shifts.is, log) c.emit_shift.ensures.cost
+
+pub returns-in-Products-clause-computes : goal.returns-in-Products-clause-computes
+unfolding Computes list_of
+returns-in-Products-clause-computes g c = rw c.in-Products.is (c.emit_product.ensures.realises false)
+
+pub emit_division-requires-clause-a : goal.emit_division-requires-clause-a
+emit_division-requires-clause-a g c =
+    let fine : HasDivisionRows c.args.list c.args.at.now.a c.args.at.now.b = c.requires.division in
+    (rw c.in-Divisions.is at fine).0
+
+pub emit_division-requires-clause-b : goal.emit_division-requires-clause-b
+emit_division-requires-clause-b g c =
+    let fine : HasDivisionRows c.args.list c.args.at.now.a c.args.at.now.b = c.requires.division in
+    (rw c.in-Divisions.is at fine).1
+
+pub returns-in-Divisions-clause-computes : goal.returns-in-Divisions-clause-computes
+unfolding Computes list_of
+returns-in-Divisions-clause-computes g c = rw c.in-Divisions.is (c.emit_division.ensures.realises false)

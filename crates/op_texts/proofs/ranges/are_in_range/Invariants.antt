@@ -1,6 +1,6 @@
 use Rattle.std.proofs.Common.{drop}
 use Rattle.micro_ir.specs.Replay.{AllInRange}
-use Rattle.program_tests.proofs.ranges.are_in_range.Given as goal
+use Rattle.op_texts.proofs.ranges.are_in_range.Given as goal
 
 -- where a chain can run the operations that are left, it can run all
 abbrev pub invariant-loop-op : goal.invariant-loop-op
