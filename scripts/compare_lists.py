@@ -22,7 +22,12 @@ RAW = {"srl_raw": "srl", "sra_raw": "sra"}
 COMMIT_LENGTH = 4
 # Extensions by the sign, and the bits of what is extended.
 EXTENSIONS = {"sext_8": 8, "sext_16": 16}
-KINDS = BITWISE + SUMS + TRUTHS + CHOICES + SHIFTS + list(RAW) + list(EXTENSIONS)
+PRODUCTS = ["mul", "mulhu", "mulhsu", "mulh"]
+# Products with an addend, which is the register of the result; the hashes are of lists with another one.
+ADDED = ["macc", "nmsac"]
+HASHED_ADDEND = 4
+DIVISIONS = ["divu", "remu", "div", "rem"]
+KINDS = BITWISE + SUMS + TRUTHS + CHOICES + SHIFTS + list(RAW) + list(EXTENSIONS) + PRODUCTS + ADDED + DIVISIONS
 WIDTHS = [8, 16, 32]
 # The rows of the operands: two registers, one register twice, and the row of the scalar with a register and the other way
 # round. The result goes to another register.
@@ -53,12 +58,19 @@ RESULT_ROW = 36
 ON_MASKS = {"andn": 24, "orn": 28, "nand": 29, "nor": 30, "xnor": 31}
 # That of the difference whose first operand is the scalar.
 REVERSED = 3
-# The f3 of the forms with a register and with a scalar register, and of the words on masks.
+# The funct6 of the products and the divisions.
+MULTIPLYING = {
+    "mul": 37, "mulhu": 36, "mulhsu": 38, "mulh": 39, "macc": 45, "nmsac": 47, "divu": 32, "div": 33, "remu": 34, "rem": 35,
+}
+# The f3 of the forms with a register and with a scalar register, and of the words on masks; and of the first two where they
+# multiply or divide.
 V, X, M = 0, 4, 2
+MULTIPLYING_V, MULTIPLYING_X = 2, 6
 # The scalar register of the second form.
 SCALAR_REGISTER = 6
-# No list of an instruction here is longer.
+# No list of an instruction here is longer: of a kind that multiplies or divides, and of another.
 MOST_OPERATIONS = 1000
+MOST_MULTIPLYING = 23000
 # What the frame of an instruction has before the list of its kind, and behind it.
 BEFORE = re.compile(rf"window .*|search \w+ 0|update \w+ {SCALAR_ROW} [01]")
 BEFORE_EXTENSION = re.compile(r"window .*|spread .*")
@@ -124,6 +136,11 @@ def finish(what, same, different):
     sys.exit(1 if different else 0)
 
 
+def with_addend(lines):
+    """The list with the addend that the hashes have. The addend stands in searches alone, the result in updates alone."""
+    return [line.replace(f" {TO}=", f" {HASHED_ADDEND}=") for line in lines]
+
+
 def compare_hashes(told_path, hashes_path):
     known = known_hashes(hashes_path)
     different = []
@@ -131,13 +148,21 @@ def compare_hashes(told_path, hashes_path):
     for (kind, width, rows), lines in told_lists(told_path).items():
         if rows != APART or kind in RAW or kind in EXTENSIONS:
             continue
-        ours = len(lines), hash_of(lines)
+        ours = len(lines), hash_of(with_addend(lines) if kind in ADDED else lines)
         theirs = known.get((kind.replace("_", ""), width))
         if ours == theirs:
             same += 1
         else:
             different.append(f"{question(kind, width, rows)}: {ours}, and the model: {theirs}")
     finish("hashes of lists", same, different)
+
+
+def multiplying_word(kind, a, b):
+    """The word of a kind that multiplies or divides, or none where the scalar comes first."""
+    if a == SCALAR_ROW:
+        return None
+    form = MULTIPLYING_X if b == SCALAR_ROW else MULTIPLYING_V
+    return MULTIPLYING[kind] << 26 | 1 << 25 | a << 20 | (SCALAR_REGISTER if b == SCALAR_ROW else b) << 15 | form << 12 | TO << 7 | 0x57
 
 
 def word_of(kind, rows):
@@ -147,6 +172,8 @@ def word_of(kind, rows):
         return None if SCALAR_ROW in rows else ON_MASKS[kind] << 26 | 1 << 25 | a << 20 | b << 15 | M << 12 | TO << 7 | 0x57
     if kind in RAW:
         return NARROWING[kind] << 26 | 1 << 25 | a << 20 | SCALAR_REGISTER << 15 | X << 12 | TO << 7 | 0x57 if rows == SCALAR else None
+    if kind in MULTIPLYING:
+        return multiplying_word(kind, a, b)
     funct6, unmasked = ON_ELEMENTS[kind]
     form = V
     if rows == SCALAR_FIRST:
@@ -162,13 +189,13 @@ def word_of(kind, rows):
     return funct6 << 26 | unmasked << 25 | a << 20 | b << 15 | form << 12 | TO << 7 | 0x57
 
 
-def model_list(model, folder, word, width):
+def model_list(model, folder, word, width, most=MOST_OPERATIONS):
     """The operations of an instruction: those of the kind stand among those of the frame."""
     path = os.path.join(folder, "image")
     before = load(SCALAR_REGISTER, 0x5A) + [SET_TYPE | (width.bit_length() - 4) << 23]
     with open(path, "wb") as file:
         file.write(image([*before, word, 0x6F]))
-    session = f"step {len(before) + 1}\n" + "".join(f"micro {k}\n" for k in range(MOST_OPERATIONS))
+    session = f"step {len(before) + 1}\n" + "".join(f"micro {k}\n" for k in range(most))
     run = subprocess.run([model, "debug", path], input=session.encode(), capture_output=True)
     lines = run.stdout.decode().splitlines()
     return [line.split(maxsplit=2)[2] for line in lines if line.startswith("micro ")]
@@ -219,7 +246,7 @@ def is_same_list(model, folder, told, question_of):
     narrow = width // 2 if kind in RAW else width
     if word is None or narrow not in WIDTHS:
         return None
-    theirs = model_list(model, folder, word, narrow)
+    theirs = model_list(model, folder, word, narrow, MOST_MULTIPLYING if kind in MULTIPLYING else MOST_OPERATIONS)
     return bool(lines) and (is_narrowed(lines, theirs) if kind in RAW else is_framed(lines, theirs))
 
 

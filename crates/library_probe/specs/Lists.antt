@@ -8,6 +8,10 @@ use Rattle.gen_logic.specs.Recipes.{logic_steps}
 use Rattle.gen_logic.specs.declared.kinds.Logic.TheVariants.{And as LogicAnd, Or as LogicOr, Xor as LogicXor, Nand as LogicNand, Nor as LogicNor, Xnor as LogicXnor, Andn as LogicAndn, Orn as LogicOrn, Second as LogicSecond, Merge as LogicMerge}
 use Rattle.gen_shift.specs.Lists.{shifting, shift_steps, extension}
 use Rattle.gen_shift.specs.declared.kinds.Shift.TheVariants.{Sll as ShiftSll, Srl as ShiftSrl, Sra as ShiftSra}
+use Rattle.gen_mul.specs.Lists.{product_steps}
+use Rattle.gen_mul.specs.declared.kinds.Product.TheVariants.{Mul as ProductMul, Mulhu as ProductMulhu, Mulhsu as ProductMulhsu, Mulh as ProductMulh, Macc as ProductMacc, Nmsac as ProductNmsac}
+use Rattle.gen_div.specs.Lists.{division_steps}
+use Rattle.gen_div.specs.declared.kinds.Division.TheVariants.{Divu as DivisionDivu, Remu as DivisionRemu, Div as DivisionDiv, Rem as DivisionRem}
 use Rattle.library_probe.specs.declared.kinds.Size.{Size}
 use Rattle.library_probe.specs.declared.kinds.Size.TheVariants.{Byte, Half, Word}
 use Rattle.library_probe.specs.declared.kinds.Bitwise.{Bitwise}
@@ -22,8 +26,12 @@ use Rattle.library_probe.specs.declared.kinds.Shifted.{Shifted}
 use Rattle.library_probe.specs.declared.kinds.Shifted.TheVariants.{Sll, Srl, Sra, SrlRaw, SraRaw}
 use Rattle.library_probe.specs.declared.kinds.Source.{Source}
 use Rattle.library_probe.specs.declared.kinds.Source.TheVariants.{Eight, Sixteen}
+use Rattle.library_probe.specs.declared.kinds.Multiplied.{Multiplied}
+use Rattle.library_probe.specs.declared.kinds.Multiplied.TheVariants.{Mul, Mulhu, Mulhsu, Mulh, Macc, Nmsac}
+use Rattle.library_probe.specs.declared.kinds.Divided.{Divided}
+use Rattle.library_probe.specs.declared.kinds.Divided.TheVariants.{Divu, Remu, Div, Rem}
 use Rattle.library_probe.specs.declared.kinds.Kind.{Kind}
-use Rattle.library_probe.specs.declared.kinds.Kind.TheVariants.{Bits, Sum, Tells, Chooses, Shifts, Extends}
+use Rattle.library_probe.specs.declared.kinds.Kind.TheVariants.{Bits, Sum, Tells, Chooses, Shifts, Extends, Multiplies, Divides}
 
 -- the bits of an element
 abbrev pub bits_of : Size → ℕ
@@ -95,6 +103,21 @@ source_bits Sixteen = 16
 abbrev pub extended_steps : Source → ℕ → Place → List Step
 extended_steps source w at = extension (source_bits source) w at.a
 
+-- the steps of a product, and of a quotient or a remainder
+abbrev pub multiplied_steps : Multiplied → ℕ → Place → List Step
+multiplied_steps Mul w at = product_steps ProductMul w at.a at.b at.addend at.to
+multiplied_steps Mulhu w at = product_steps ProductMulhu w at.a at.b at.addend at.to
+multiplied_steps Mulhsu w at = product_steps ProductMulhsu w at.a at.b at.addend at.to
+multiplied_steps Mulh w at = product_steps ProductMulh w at.a at.b at.addend at.to
+multiplied_steps Macc w at = product_steps ProductMacc w at.a at.b at.addend at.to
+multiplied_steps Nmsac w at = product_steps ProductNmsac w at.a at.b at.addend at.to
+
+abbrev pub divided_steps : Divided → ℕ → Place → List Step
+divided_steps Divu w at = division_steps DivisionDivu w at.a at.b at.to
+divided_steps Remu w at = division_steps DivisionRemu w at.a at.b at.to
+divided_steps Div w at = division_steps DivisionDiv w at.a at.b at.to
+divided_steps Rem w at = division_steps DivisionRem w at.a at.b at.to
+
 -- the steps of any kind
 abbrev pub kind_steps : Kind → (w l : ℕ) → Place → List Step
 kind_steps (Bits kind) w l at = bitwise_steps kind w at
@@ -103,6 +126,8 @@ kind_steps (Tells kind) w l at = told_steps kind w at
 kind_steps (Chooses kind) w l at = chosen_steps kind w at
 kind_steps (Shifts kind) w l at = shifted_steps kind w l at
 kind_steps (Extends source) w l at = extended_steps source w at
+kind_steps (Multiplies kind) w l at = multiplied_steps kind w at
+kind_steps (Divides kind) w l at = divided_steps kind w at
 
 -- the micro-operations of a kind
 abbrev pub kind_ops : Kind → Size → Place → List MicroOp

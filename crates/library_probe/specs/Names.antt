@@ -15,8 +15,12 @@ use Rattle.library_probe.specs.declared.kinds.Shifted.{Shifted}
 use Rattle.library_probe.specs.declared.kinds.Shifted.TheVariants.{Sll, Srl, Sra, SrlRaw, SraRaw}
 use Rattle.library_probe.specs.declared.kinds.Source.{Source}
 use Rattle.library_probe.specs.declared.kinds.Source.TheVariants.{Eight, Sixteen}
+use Rattle.library_probe.specs.declared.kinds.Multiplied.{Multiplied}
+use Rattle.library_probe.specs.declared.kinds.Multiplied.TheVariants.{Mul, Mulhu, Mulhsu, Mulh, Macc, Nmsac}
+use Rattle.library_probe.specs.declared.kinds.Divided.{Divided}
+use Rattle.library_probe.specs.declared.kinds.Divided.TheVariants.{Divu, Remu, Div, Rem}
 use Rattle.library_probe.specs.declared.kinds.Kind.{Kind}
-use Rattle.library_probe.specs.declared.kinds.Kind.TheVariants.{Bits, Sum, Tells, Chooses, Shifts, Extends}
+use Rattle.library_probe.specs.declared.kinds.Kind.TheVariants.{Bits, Sum, Tells, Chooses, Shifts, Extends, Multiplies, Divides}
 
 -- the widths, in bits
 abbrev pub size_in : List ℕ → Option Size
@@ -93,6 +97,26 @@ source_in name =
     else if bytes_eq name (codes "sext_16") then Some Sixteen
     else None
 
+-- products, their high halves, and multiply-adds
+abbrev pub product_in : List ℕ → Option Multiplied
+product_in name =
+    if bytes_eq name (codes "mul") then Some Mul
+    else if bytes_eq name (codes "mulhu") then Some Mulhu
+    else if bytes_eq name (codes "mulhsu") then Some Mulhsu
+    else if bytes_eq name (codes "mulh") then Some Mulh
+    else if bytes_eq name (codes "macc") then Some Macc
+    else if bytes_eq name (codes "nmsac") then Some Nmsac
+    else None
+
+-- quotients and remainders
+abbrev pub division_in : List ℕ → Option Divided
+division_in name =
+    if bytes_eq name (codes "divu") then Some Divu
+    else if bytes_eq name (codes "remu") then Some Remu
+    else if bytes_eq name (codes "div") then Some Div
+    else if bytes_eq name (codes "rem") then Some Rem
+    else None
+
 -- the first of two, or the second where there is none
 abbrev pub first_of : Option Kind → Option Kind → Option Kind
 first_of None other = other
@@ -105,4 +129,6 @@ kind_in name =
     (first_of (option_map Sum (sum_in name))
     (first_of (option_map Tells (truth_in name))
     (first_of (option_map Chooses (choice_in name))
-    (first_of (option_map Shifts (shift_in name)) (option_map Extends (source_in name))))))
+    (first_of (option_map Shifts (shift_in name))
+    (first_of (option_map Extends (source_in name))
+    (first_of (option_map Multiplies (product_in name)) (option_map Divides (division_in name))))))))

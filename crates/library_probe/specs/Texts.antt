@@ -4,19 +4,19 @@ use lib.Dec.{ltb}
 use Rattle.micro_ir.specs.declared.op.MicroOp.{MicroOp}
 use Rattle.micro_ir.specs.declared.place.Place.{Place}
 use Rattle.micro_ir.specs.Listing.{listing_text}
-use Rattle.micro_ir.specs.WorkRows.{mask_row, scalar_row, left_row, right_row}
+use Rattle.micro_ir.specs.WorkRows.{scalar_row}
 use Rattle.library_probe.specs.declared.kinds.Size.{Size}
 use Rattle.library_probe.specs.declared.kinds.Kind.{Kind}
 use Rattle.library_probe.specs.Names.{size_in, kind_in}
 use Rattle.library_probe.specs.Lists.{kind_ops}
 
--- the row may hold an operand
+-- the row may hold an operand of any kind: a register, or the scalar
 abbrev pub is_operand : ℕ → Bool
-is_operand row = ltb row 32 || (eqb row mask_row || (eqb row scalar_row || (eqb row left_row || eqb row right_row)))
+is_operand row = ltb row 32 || eqb row scalar_row
 
 -- the operands are such rows, and the result goes to a register
 abbrev pub is_place : Place → Bool
-is_place at = is_operand at.a && (is_operand at.b && ltb at.to 32)
+is_place at = is_operand at.a && (is_operand at.b && (is_operand at.addend && ltb at.to 32))
 
 -- a line for each operation
 abbrev pub ops_text : List MicroOp → List ℕ

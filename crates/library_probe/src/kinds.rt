@@ -1,6 +1,6 @@
 //! The kinds of operation and the widths of elements, and their names.
 ghost use Rattle.std.specs.Prelude.{◌≡◌};
-ghost use Rattle.library_probe.specs.Names.{size_in, bitwise_in, sum_in, truth_in, choice_in, shift_in, source_in, kind_in};
+ghost use Rattle.library_probe.specs.Names.{size_in, bitwise_in, sum_in, truth_in, choice_in, shift_in, source_in, product_in, division_in, kind_in};
 
 /// A width of elements.
 #[derive(Clone, Copy)]
@@ -77,6 +77,26 @@ pub(crate) enum Source {
     Sixteen,
 }
 
+/// Products, their high halves, and multiply-adds.
+#[derive(Clone, Copy)]
+pub(crate) enum Multiplied {
+    Mul,
+    Mulhu,
+    Mulhsu,
+    Mulh,
+    Macc,
+    Nmsac,
+}
+
+/// Quotients and remainders.
+#[derive(Clone, Copy)]
+pub(crate) enum Divided {
+    Divu,
+    Remu,
+    Div,
+    Rem,
+}
+
 /// A kind of operation.
 #[derive(Clone, Copy)]
 pub(crate) enum Kind {
@@ -86,6 +106,8 @@ pub(crate) enum Kind {
     Chooses(Choice),
     Shifts(Shifted),
     Extends(Source),
+    Multiplies(Multiplied),
+    Divides(Divided),
 }
 
 /// The width that a word names.
@@ -191,6 +213,34 @@ fn source_named(word: &str) -> Option<Source>
     }
 }
 
+/// The product of this name.
+fn product_named(word: &str) -> Option<Multiplied>
+    ensures { result ≡ product_in word.now }
+{
+    match word {
+        "mul" => Some(Multiplied::Mul),
+        "mulhu" => Some(Multiplied::Mulhu),
+        "mulhsu" => Some(Multiplied::Mulhsu),
+        "mulh" => Some(Multiplied::Mulh),
+        "macc" => Some(Multiplied::Macc),
+        "nmsac" => Some(Multiplied::Nmsac),
+        _ => None,
+    }
+}
+
+/// The quotient or remainder of this name.
+fn division_named(word: &str) -> Option<Divided>
+    ensures { result ≡ division_in word.now }
+{
+    match word {
+        "divu" => Some(Divided::Divu),
+        "remu" => Some(Divided::Remu),
+        "div" => Some(Divided::Div),
+        "rem" => Some(Divided::Rem),
+        _ => None,
+    }
+}
+
 /// The kind that a word names.
 pub(crate) fn kind_named(word: &str) -> Option<Kind>
     ensures { result ≡ kind_in word.now }
@@ -207,6 +257,10 @@ pub(crate) fn kind_named(word: &str) -> Option<Kind>
         Some(Kind::Shifts(kind))
     } else if let Some(source) = source_named(word) {
         Some(Kind::Extends(source))
+    } else if let Some(kind) = product_named(word) {
+        Some(Kind::Multiplies(kind))
+    } else if let Some(kind) = division_named(word) {
+        Some(Kind::Divides(kind))
     } else {
         None
     }

@@ -3,25 +3,30 @@ ghost use Rattle.std.specs.Prelude.{◌≡◌, ◌+◌, ◌*◌, ◌<◌, ◌≤
 ghost use lib.Dec.{ltb};
 ghost use Rattle.micro_ir.specs.Steps.{micros};
 ghost use Rattle.micro_ir.specs.WorkRows.{IsOperandRow};
-ghost use Rattle.library_probe.specs.Lists.{bitwise_steps, added_steps, told_steps, chosen_steps, shifted_steps, source_bits, extended_steps, kind_steps, kind_ops};
+ghost use Rattle.gen_div.specs.Rows.{IsSignedRow};
+ghost use Rattle.library_probe.specs.Lists.{bitwise_steps, added_steps, told_steps, chosen_steps, shifted_steps, source_bits, extended_steps, multiplied_steps, divided_steps, kind_steps, kind_ops};
 
-use crate::kinds::{Added, Bitwise, Choice, Kind, Shifted, Size, Source, Truth};
+use crate::kinds::{
+    Added, Bitwise, Choice, Divided, Kind, Multiplied, Shifted, Size, Source, Truth,
+};
 use bit_laws::{W8, W16, W32, Width};
 use gen_arith::{
     emit_adc, emit_add, emit_eq, emit_gt, emit_gtu, emit_le, emit_leu, emit_lt, emit_ltu,
     emit_madc, emit_madc_in, emit_max, emit_maxu, emit_min, emit_minu, emit_msbc, emit_msbc_in,
     emit_ne, emit_sbc, emit_sub,
 };
+use gen_div::{emit_div, emit_divu, emit_rem, emit_remu};
 use gen_logic::{
     emit_and, emit_andn, emit_merge, emit_move, emit_nand, emit_nor, emit_or, emit_orn, emit_xnor,
     emit_xor,
 };
+use gen_mul::{emit_macc, emit_mul, emit_mulh, emit_mulhsu, emit_mulhu, emit_nmsac};
 use gen_shift::{emit_sext, emit_sll, emit_sra, emit_sra_raw, emit_srl, emit_srl_raw};
 use micro_ir::{MicroBuf, Place};
 use std::alloc::{AllocError, Global};
 
 // No list of a kind is longer.
-const MOST_OPS: u32 = 1024;
+const MOST_OPS: u32 = 32768;
 
 // The rounding mode that rounds down.
 const ROUNDS_DOWN: u8 = 2;
@@ -157,13 +162,55 @@ fn emit_extended<W: Width>(buf: &mut MicroBuf, source: Source, at: &Place)
     }
 }
 
+/// Appends the list of a product.
+fn emit_multiplied<W: Width>(buf: &mut MicroBuf, kind: Multiplied, at: &Place)
+    requires a { IsOperandRow at.now.a }
+    requires b { IsOperandRow at.now.b }
+    requires addend { IsOperandRow at.now.addend }
+    requires to { at.now.to < 32 }
+    requires room { W.BITS * (20 * W.BITS + 61) + 8 ≤ buf.old.spare }
+    ensures { buf.new.ops ≡ buf.old.ops ++ micros W.BITS (multiplied_steps kind W.BITS at.now) }
+{
+    match kind {
+        Multiplied::Mul => emit_mul::<W>(buf, at),
+        Multiplied::Mulhu => emit_mulhu::<W>(buf, at),
+        Multiplied::Mulhsu => emit_mulhsu::<W>(buf, at),
+        Multiplied::Mulh => emit_mulh::<W>(buf, at),
+        Multiplied::Macc => emit_macc::<W>(buf, at),
+        Multiplied::Nmsac => emit_nmsac::<W>(buf, at),
+    }
+}
+
+/// Appends the list of a quotient or a remainder.
+fn emit_divided<W: Width>(buf: &mut MicroBuf, kind: Divided, at: &Place)
+    requires a { IsOperandRow at.now.a }
+    requires b { IsOperandRow at.now.b }
+    requires dividend { IsSignedRow at.now.a }
+    requires divisor { IsSignedRow at.now.b }
+    requires to { at.now.to < 32 }
+    requires room { W.BITS * (14 * W.BITS + 75) + 19 ≤ buf.old.spare }
+    ensures { buf.new.ops ≡ buf.old.ops ++ micros W.BITS (divided_steps kind W.BITS at.now) }
+{
+    match kind {
+        Divided::Divu => emit_divu::<W>(buf, at),
+        Divided::Remu => emit_remu::<W>(buf, at),
+        Divided::Div => emit_div::<W>(buf, at),
+        Divided::Rem => emit_rem::<W>(buf, at),
+    }
+}
+
 /// Appends the list of a kind.
 fn emit_kind<W: Width>(buf: &mut MicroBuf, kind: Kind, at: &Place)
     requires a { IsOperandRow at.now.a }
     requires b { IsOperandRow at.now.b }
+    requires addend { IsOperandRow at.now.addend }
+    requires dividend { IsSignedRow at.now.a }
+    requires divisor { IsSignedRow at.now.b }
     requires to { at.now.to < 32 }
     requires room { 12 * W.BITS + 11 ≤ buf.old.spare }
     requires stages { W.LOG * (3 * W.BITS + 15) + (3 * W.BITS + 9) ≤ buf.old.spare }
+    requires products { W.BITS * (20 * W.BITS + 61) + 8 ≤ buf.old.spare }
+    requires quotients { W.BITS * (14 * W.BITS + 75) + 19 ≤ buf.old.spare }
     ensures { buf.new.ops ≡ buf.old.ops ++ micros W.BITS (kind_steps kind W.BITS W.LOG at.now) }
 {
     match kind {
@@ -173,6 +220,8 @@ fn emit_kind<W: Width>(buf: &mut MicroBuf, kind: Kind, at: &Place)
         Kind::Chooses(kind) => emit_chosen::<W>(buf, kind, at),
         Kind::Shifts(kind) => emit_shifted::<W>(buf, kind, at),
         Kind::Extends(source) => emit_extended::<W>(buf, source, at),
+        Kind::Multiplies(kind) => emit_multiplied::<W>(buf, kind, at),
+        Kind::Divides(kind) => emit_divided::<W>(buf, kind, at),
     }
 }
 
@@ -185,6 +234,9 @@ pub(crate) fn list_of(
 ) -> Result<MicroBuf, AllocError>
     requires a { IsOperandRow at.now.a }
     requires b { IsOperandRow at.now.b }
+    requires addend { IsOperandRow at.now.addend }
+    requires dividend { IsSignedRow at.now.a }
+    requires divisor { IsSignedRow at.now.b }
     requires to { at.now.to < 32 }
     ensures { IfOk result (λ buf. buf.ops ≡ kind_ops kind size at.now) }
 {

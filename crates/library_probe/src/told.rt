@@ -1,12 +1,13 @@
 //! What is told of kinds of operation.
 ghost use Rattle.std.specs.Prelude.{◌≡◌, ◌≤◌, ◌++◌, true, length, OnOk, IfOk, string_bytes};
 ghost use Rattle.micro_ir.specs.WorkRows.{IsOperandRow};
+ghost use Rattle.gen_div.specs.Rows.{IsSignedRow};
 ghost use Rattle.library_probe.specs.Texts.{is_operand, is_place, ops_text, list_text, told_text};
 
 use crate::kinds::{kind_named, size_named};
 use crate::lists::list_of;
 use itoa::Buffer;
-use micro_ir::{LEFT_ROW, LineBuf, MASK_ROW, MicroOp, Place, RIGHT_ROW, SCALAR_ROW, listing};
+use micro_ir::{LineBuf, MicroOp, Place, SCALAR_ROW, listing};
 use std::alloc::{AllocError, Global};
 
 // The rows below are registers.
@@ -15,12 +16,13 @@ const REGISTERS: u8 = 32;
 // What is told of a line of another form.
 pub(crate) const NO_FORM: &str = "form\n";
 
-/// Whether a row may hold an operand.
+/// Whether a row may hold an operand of any kind: a register, or the row of the scalar.
 fn is_operand(row: u8) -> bool
     ensures value { result ≡ is_operand row }
     ensures holds { result ≡ true → IsOperandRow row }
+    ensures divides { result ≡ true → IsSignedRow row }
 {
-    row < REGISTERS || row == MASK_ROW || row == SCALAR_ROW || row == LEFT_ROW || row == RIGHT_ROW
+    row < REGISTERS || row == SCALAR_ROW
 }
 
 /// Appends a line for each operation.
@@ -66,7 +68,7 @@ pub(crate) fn told_of(
     let (Some(kind), Some(size)) = (kind_named(name), size_named(width)) else {
         return String::from_str(alloc, NO_FORM);
     };
-    if is_operand(at.a) && is_operand(at.b) && at.to < REGISTERS {
+    if is_operand(at.a) && is_operand(at.b) && is_operand(at.addend) && at.to < REGISTERS {
         let buf = list_of(alloc, kind, size, at)?;
         list_text(alloc, name, width, buf.ops())
     } else {
