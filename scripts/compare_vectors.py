@@ -73,6 +73,9 @@ RESIZED = [
     *(Resized(funct6, FORMS, 0, SAME, TWICE) for funct6 in (44, 45)),  # vnsrl, vnsra
     *(Resized(funct6, [V, X], PRODUCT, TWICE, SAME) for funct6 in (48, 49, 50, 51)),  # vwaddu, vwadd, vwsubu, vwsub
     *(Resized(funct6, [V, X], PRODUCT, TWICE, TWICE) for funct6 in (52, 53, 54, 55)),  # the same with a wide vs2
+    *(Resized(funct6, [V, X], PRODUCT, TWICE, SAME) for funct6 in (56, 58, 59)),  # vwmulu, vwmulsu, vwmul
+    *(Resized(funct6, [V, X], PRODUCT, TWICE, SAME) for funct6 in (60, 61, 63)),  # vwmaccu, vwmacc, vwmaccsu
+    Resized(62, [X], PRODUCT, TWICE, SAME),  # vwmaccus
     *(Resized(18, [V], PRODUCT, SAME, HALF, code) for code in (6, 7)),  # vzext.vf2, vsext.vf2
     *(Resized(18, [V], PRODUCT, SAME, QUARTER, code) for code in (4, 5)),  # vzext.vf4, vsext.vf4
 ]

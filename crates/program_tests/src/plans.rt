@@ -57,6 +57,11 @@ const QUOTIENT: u32 = 0x8621_a257;
 
 const REMAINDER: u32 = 0x8e21_a257;
 
+// vwmulu.vv v4, v2, v3; and vwmaccsu.vv v4, v3, v2.
+const WIDE_PRODUCT: u32 = 0xe221_a257;
+
+const WIDE_PRODUCT_ADDED: u32 = 0xfe21_a257;
+
 // The least number and -5, and the divisors -1 and 0.
 const DIVIDED: &[Word] = &[
     Word(2, 0, 0x8000_0000),
@@ -83,7 +88,7 @@ struct Row {
     cost: Cost,
 }
 
-static ROWS: [Row; 13] = [
+static ROWS: [Row; 15] = [
     // no carry passes into the next element
     Row {
         word: ADD,
@@ -238,6 +243,30 @@ static ROWS: [Row; 13] = [
         ],
         cost: (256, 70, 30),
     },
+    // products of bytes without a sign
+    Row {
+        word: WIDE_PRODUCT,
+        vtype: E8_M1,
+        vl: 2,
+        policy: Policy::Keep,
+        before: &[Word(2, 0, 0x0000_10ff), Word(3, 0, 0x0000_20ff)],
+        after: &[Word(4, 0, 0x0200_fe01)],
+        cost: (8008, 1864, 1504),
+    },
+    // the products are 255 times -1 and 2 times -128
+    Row {
+        word: WIDE_PRODUCT_ADDED,
+        vtype: E8_M1,
+        vl: 2,
+        policy: Policy::Keep,
+        before: &[
+            Word(2, 0, 0x0000_02ff),
+            Word(3, 0, 0x0000_80ff),
+            Word(4, 0, 0x0001_0100),
+        ],
+        after: &[Word(4, 0, 0xff01_0001)],
+        cost: (8276, 1946, 1550),
+    },
 ];
 
 // Whether it is an operation of the table.
@@ -248,6 +277,7 @@ fn is_planned(op: VOp) -> bool
     match op {
         VOp::Opi(OpiOp::Vadd | OpiOp::Vmseq | OpiOp::Vsll | OpiOp::Vnsrl) => true,
         VOp::Opm(OpmOp::VsextVf2 | OpmOp::Vwaddu) => true,
+        VOp::Opm(OpmOp::Vwmulu | OpmOp::Vwmaccsu) => true,
         VOp::Opm(OpmOp::Vmulhsu | OpmOp::Vmadd | OpmOp::Vnmsac) => true,
         VOp::Opm(OpmOp::Vdiv | OpmOp::Vrem) => true,
         _ => false,

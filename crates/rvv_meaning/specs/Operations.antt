@@ -12,7 +12,7 @@ use Rattle.rvv_decode.specs.declared.instruction.VOp.TheVariants.{Opi, Opm}
 use Rattle.rvv_decode.specs.declared.instruction.Form.{Form}
 use Rattle.rvv_decode.specs.declared.instruction.Form.TheVariants.{V, X, I}
 use Rattle.rvv_decode.specs.declared.instruction.OpiOp.TheVariants.{Vadd, Vsub, Vrsub, Vadc, Vsbc, Vmadc, Vmsbc, Vand, Vor, Vxor, Vsll, Vsrl, Vsra, Vmseq, Vmsne, Vmsltu, Vmslt, Vmsleu, Vmsle, Vmsgtu, Vmsgt, Vminu, Vmin, Vmaxu, Vmax, Vmerge, VmvV, Vnsrl, Vnsra}
-use Rattle.rvv_decode.specs.declared.instruction.OpmOp.TheVariants.{VzextVf2, VzextVf4, VsextVf2, VsextVf4, Vwaddu, Vwadd, Vwsubu, Vwsub, VwadduW, VwaddW, VwsubuW, VwsubW, Vdivu, Vdiv, Vremu, Vrem, Vmulhu, Vmul, Vmulhsu, Vmulh, Vmadd, Vnmsub, Vmacc, Vnmsac}
+use Rattle.rvv_decode.specs.declared.instruction.OpmOp.TheVariants.{VzextVf2, VzextVf4, VsextVf2, VsextVf4, Vwaddu, Vwadd, Vwsubu, Vwsub, VwadduW, VwaddW, VwsubuW, VwsubW, Vwmulu, Vwmulsu, Vwmul, Vwmaccu, Vwmacc, Vwmaccus, Vwmaccsu, Vdivu, Vdiv, Vremu, Vrem, Vmulhu, Vmul, Vmulhsu, Vmulh, Vmadd, Vnmsub, Vmacc, Vnmsac}
 use Rattle.vtype_cfg.specs.declared.configuration.Cfg.{Cfg}
 use Rattle.vtype_cfg.specs.Classes.{Row, class_of, row_of, width_at, count_at, is_mask_place}
 use Rattle.rvv_meaning.specs.Elementwise.{Elementwise, size_of}
@@ -246,6 +246,13 @@ unsigned_immediate value = record (of_two value) { signed_immediate = false }
 abbrev pub on_signed : Operation → Operation
 on_signed o = record o { signed_a = true; signed_b = true }
 
+-- the same, where elements of vs2 alone are extended by their sign, and where those in the place of vs1 alone are
+abbrev pub on_signed_a : Operation → Operation
+on_signed_a o = record o { signed_a = true }
+
+abbrev pub on_signed_b : Operation → Operation
+on_signed_b o = record o { signed_b = true }
+
 -- an operation on two operands and the mask bit
 abbrev pub of_two_and_mask : ((w a b : ℕ) → Bool → ℕ) → Operation
 of_two_and_mask value = record (of_two (λ w a b. 0)) { takes_mask = true; value = λ w mode a b d m. value w a b m }
@@ -350,6 +357,13 @@ operation_for (Opm VwadduW) = Some (of_two vadd)
 operation_for (Opm VwaddW) = Some (on_signed (of_two vadd))
 operation_for (Opm VwsubuW) = Some (of_two vsub)
 operation_for (Opm VwsubW) = Some (on_signed (of_two vsub))
+operation_for (Opm Vwmulu) = Some (of_two vmul)
+operation_for (Opm Vwmulsu) = Some (on_signed_a (of_two vmul))
+operation_for (Opm Vwmul) = Some (on_signed (of_two vmul))
+operation_for (Opm Vwmaccu) = Some (of_three vmacc)
+operation_for (Opm Vwmacc) = Some (on_signed (of_three vmacc))
+operation_for (Opm Vwmaccus) = Some (on_signed_a (of_three vmacc))
+operation_for (Opm Vwmaccsu) = Some (on_signed_b (of_three vmacc))
 operation_for (Opm Vmul) = Some (of_two vmul)
 operation_for (Opm Vmulh) = Some (of_two vmulh)
 operation_for (Opm Vmulhu) = Some (of_two vmulhu)

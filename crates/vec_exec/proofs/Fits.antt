@@ -3,7 +3,7 @@ use Rattle.std.proofs.Common.{◌≡◌, ℕ, ◌+◌, ◌-◌, ◌*◌, ◌^◌
 use Rattle.std.specs.Prelude.{is_some, ℤ, pos, negsuc, ◌*ℤ◌, int_div, int_rem}
 use Rattle.std.specs.Int.{int_shr, int_div_euclid}
 use Rattle.rvv_decode.specs.declared.instruction.OpiOp.TheVariants.{Vadd, Vsub, Vrsub, Vadc, Vsbc, Vmadc, Vmsbc, Vand, Vor, Vxor, Vsll, Vsrl, Vsra, Vmseq, Vmsne, Vmsltu, Vmslt, Vmsleu, Vmsle, Vmsgtu, Vmsgt, Vminu, Vmin, Vmaxu, Vmax, Vmerge, VmvV, Vnsrl, Vnsra}
-use Rattle.rvv_decode.specs.declared.instruction.OpmOp.TheVariants.{Vdivu, Vdiv, Vremu, Vrem, Vmulhu, Vmul, Vmulhsu, Vmulh, Vmadd, Vnmsub, Vmacc, Vnmsac, VzextVf2, VzextVf4, VsextVf2, VsextVf4, Vwaddu, Vwadd, Vwsubu, Vwsub, VwadduW, VwaddW, VwsubuW, VwsubW}
+use Rattle.rvv_decode.specs.declared.instruction.OpmOp.TheVariants.{Vdivu, Vdiv, Vremu, Vrem, Vmulhu, Vmul, Vmulhsu, Vmulh, Vmadd, Vnmsub, Vmacc, Vnmsac, VzextVf2, VzextVf4, VsextVf2, VsextVf4, Vwaddu, Vwadd, Vwsubu, Vwsub, VwadduW, VwaddW, VwsubuW, VwsubW, Vwmulu, Vwmulsu, Vwmul, Vwmaccu, Vwmacc, Vwmaccus, Vwmaccsu}
 use Rattle.rvv_decode.specs.declared.instruction.ConfigOp.{ConfigOp}
 use Rattle.rvv_decode.specs.declared.instruction.MemoryOp.{MemoryOp}
 use Rattle.rvv_decode.specs.declared.instruction.VOp.{VOp}
@@ -191,6 +191,13 @@ fits (Opm VwadduW) = record { same = refl; ignores = tt; means = λ w mode a b d
 fits (Opm VwaddW) = record { same = refl; ignores = tt; means = λ w mode a b d m. refl; unmasked = λ w a b d m. refl; halves = tt }
 fits (Opm VwsubuW) = record { same = refl; ignores = tt; means = λ w mode a b d m. refl; unmasked = λ w a b d m. refl; halves = tt }
 fits (Opm VwsubW) = record { same = refl; ignores = tt; means = λ w mode a b d m. refl; unmasked = λ w a b d m. refl; halves = tt }
+fits (Opm Vwmulu) = record { same = refl; ignores = tt; means = λ w mode a b d m. refl; unmasked = λ w a b d m. refl; halves = tt }
+fits (Opm Vwmulsu) = record { same = refl; ignores = tt; means = λ w mode a b d m. refl; unmasked = λ w a b d m. refl; halves = tt }
+fits (Opm Vwmul) = record { same = refl; ignores = tt; means = λ w mode a b d m. refl; unmasked = λ w a b d m. refl; halves = tt }
+fits (Opm Vwmaccu) = record { same = refl; ignores = tt; means = λ w mode a b d m. added a b d; unmasked = λ w a b d m. refl; halves = tt }
+fits (Opm Vwmacc) = record { same = refl; ignores = tt; means = λ w mode a b d m. added a b d; unmasked = λ w a b d m. refl; halves = tt }
+fits (Opm Vwmaccus) = record { same = refl; ignores = tt; means = λ w mode a b d m. added a b d; unmasked = λ w a b d m. refl; halves = tt }
+fits (Opm Vwmaccsu) = record { same = refl; ignores = tt; means = λ w mode a b d m. added a b d; unmasked = λ w a b d m. refl; halves = tt }
 fits (Opi _) = tt
 fits (Opm _) = tt
 fits (Config _) = tt

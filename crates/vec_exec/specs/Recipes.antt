@@ -23,7 +23,7 @@ use Rattle.micro_ir.specs.WorkRows.{IsOperandRow, result_row}
 use Rattle.micro_ir.specs.declared.op.MicroOp.{MicroOp}
 use Rattle.micro_ir.specs.declared.place.Place.{Place}
 use Rattle.rvv_decode.specs.declared.instruction.OpiOp.TheVariants.{Vadd, Vsub, Vrsub, Vadc, Vsbc, Vmadc, Vmsbc, Vand, Vor, Vxor, Vsll, Vsrl, Vsra, Vmseq, Vmsne, Vmsltu, Vmslt, Vmsleu, Vmsle, Vmsgtu, Vmsgt, Vminu, Vmin, Vmaxu, Vmax, Vmerge, VmvV, Vnsrl, Vnsra}
-use Rattle.rvv_decode.specs.declared.instruction.OpmOp.TheVariants.{Vdivu, Vdiv, Vremu, Vrem, Vmulhu, Vmul, Vmulhsu, Vmulh, Vmadd, Vnmsub, Vmacc, Vnmsac, VzextVf2, VzextVf4, VsextVf2, VsextVf4, Vwaddu, Vwadd, Vwsubu, Vwsub, VwadduW, VwaddW, VwsubuW, VwsubW}
+use Rattle.rvv_decode.specs.declared.instruction.OpmOp.TheVariants.{Vdivu, Vdiv, Vremu, Vrem, Vmulhu, Vmul, Vmulhsu, Vmulh, Vmadd, Vnmsub, Vmacc, Vnmsac, VzextVf2, VzextVf4, VsextVf2, VsextVf4, Vwaddu, Vwadd, Vwsubu, Vwsub, VwadduW, VwaddW, VwsubuW, VwsubW, Vwmulu, Vwmulsu, Vwmul, Vwmaccu, Vwmacc, Vwmaccus, Vwmaccsu}
 use Rattle.rvv_decode.specs.declared.instruction.VOp.{VOp}
 use Rattle.rvv_decode.specs.declared.instruction.VOp.TheVariants.{Opi, Opm}
 use Rattle.frame_meaning.specs.declared.Order.{Order}
@@ -52,6 +52,10 @@ ordered list order = record (of_two list) { order = order }
 -- the same, where narrower operands are extended by their sign
 abbrev pub on_signed : Listed → Order → Recipe
 on_signed list order = record (ordered list order) { signs = record { a = true; b = true; immediate = true } }
+
+-- a recipe of wide results, where narrower operands are extended by their sign as is said of each
+abbrev pub widened : Listed → (a b : Bool) → Recipe
+widened list a b = record (ordered list Widening) { signs = record { a = a; b = b; immediate = true } }
 
 -- the recipe of each operation that is built
 unfoldable pub recipe_for : VOp → Option Recipe
@@ -104,6 +108,13 @@ recipe_for (Opm Vwaddu) = Some (ordered (Sums Add) Widening)
 recipe_for (Opm Vwadd) = Some (on_signed (Sums Add) Widening)
 recipe_for (Opm Vwsubu) = Some (ordered (Sums Sub) Widening)
 recipe_for (Opm Vwsub) = Some (on_signed (Sums Sub) Widening)
+recipe_for (Opm Vwmulu) = Some (ordered (Products Mul) Widening)
+recipe_for (Opm Vwmulsu) = Some (widened (Products Mul) true false)
+recipe_for (Opm Vwmul) = Some (on_signed (Products Mul) Widening)
+recipe_for (Opm Vwmaccu) = Some (ordered (Products Macc) Widening)
+recipe_for (Opm Vwmacc) = Some (on_signed (Products Macc) Widening)
+recipe_for (Opm Vwmaccus) = Some (widened (Products Macc) true false)
+recipe_for (Opm Vwmaccsu) = Some (widened (Products Macc) false true)
 recipe_for (Opm VwadduW) = Some (ordered (Sums Add) WideSource)
 recipe_for (Opm VwaddW) = Some (on_signed (Sums Add) WideSource)
 recipe_for (Opm VwsubuW) = Some (ordered (Sums Sub) WideSource)

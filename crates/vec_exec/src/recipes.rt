@@ -122,6 +122,23 @@ const fn on_signed(list: Listed, order: Order) -> Recipe
     }
 }
 
+// A recipe of wide results, where narrower operands are extended by their sign as is said of each.
+const fn widened(list: Listed, a: bool, b: bool) -> Recipe
+    ensures { result ≡ lists.widened list a b }
+{
+    Recipe {
+        plain: list,
+        masked: list,
+        takes_mask: false,
+        order: Order::Widening,
+        signs: Signs {
+            a,
+            b,
+            immediate: true,
+        },
+    }
+}
+
 /// The recipe of an operation, or `None` where it is not built.
 #[tactic(auto, unfolding(crate::specs::Recipes::recipe_for))]
 pub(crate) fn recipe_of(op: VOp) -> Option<Recipe>
@@ -200,6 +217,13 @@ fn opm_recipe(op: OpmOp) -> Option<Recipe>
         OpmOp::Vwadd => on_signed(Listed::Sums(Sum::Add), Order::Widening),
         OpmOp::Vwsubu => ordered(Listed::Sums(Sum::Sub), Order::Widening),
         OpmOp::Vwsub => on_signed(Listed::Sums(Sum::Sub), Order::Widening),
+        OpmOp::Vwmulu => ordered(Listed::Products(Product::Mul), Order::Widening),
+        OpmOp::Vwmulsu => widened(Listed::Products(Product::Mul), true, false),
+        OpmOp::Vwmul => on_signed(Listed::Products(Product::Mul), Order::Widening),
+        OpmOp::Vwmaccu => ordered(Listed::Products(Product::Macc), Order::Widening),
+        OpmOp::Vwmacc => on_signed(Listed::Products(Product::Macc), Order::Widening),
+        OpmOp::Vwmaccus => widened(Listed::Products(Product::Macc), true, false),
+        OpmOp::Vwmaccsu => widened(Listed::Products(Product::Macc), false, true),
         OpmOp::VwadduW => ordered(Listed::Sums(Sum::Add), Order::WideSource),
         OpmOp::VwaddW => on_signed(Listed::Sums(Sum::Add), Order::WideSource),
         OpmOp::VwsubuW => ordered(Listed::Sums(Sum::Sub), Order::WideSource),
