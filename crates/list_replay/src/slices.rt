@@ -1,5 +1,7 @@
 //! The slices as lines.
-use bit_rows::{Planes, Row};
+ghost use Rattle.std.specs.Prelude.{◌<◌};
+
+use bit_rows::Row;
 use cam_chain::Chain;
 use std::alloc::AllocError;
 use std::fmt::Write;
@@ -28,6 +30,18 @@ fn bit_of(digits: &[u8], col: u32) -> Option<bool> {
     Some((digit >> (col % DIGIT_BITS)) & 1 == 1)
 }
 
+// Writes the bits of a row of a subarray, and tells whether the digits have one for each column.
+fn set_bits(chain: &mut Chain, sub: u8, row: u8, digits: &[u8]) -> Option<()>
+    requires sub { sub < 32 }
+    requires row { row < 64 }
+{
+    for col in 0..chain.columns() {
+        let others = chain.read_word(row, col) & !(1 << sub);
+        chain.write_word(row, col, others | u32::from(bit_of(digits, col)?) << sub);
+    }
+    Some(())
+}
+
 /// Writes the row that the words name: its subarray, its number and its digits. `None` where they have another form.
 pub(crate) fn set_row(chain: &mut Chain, words: &[&str]) -> Option<()> {
     let [sub, row, digits] = words else {
@@ -38,10 +52,7 @@ pub(crate) fn set_row(chain: &mut Chain, words: &[&str]) -> Option<()> {
     if sub >= SUBARRAYS || row >= ROWS {
         return None;
     }
-    for col in 0..chain.columns() {
-        chain.set_bit(sub, row, col, bit_of(digits.as_bytes(), col)?);
-    }
-    Some(())
+    set_bits(chain, sub, row, digits.as_bytes())
 }
 
 // Appends the bits of a row, in two hexadecimal digits for each eight columns.
@@ -56,7 +67,9 @@ fn push_bits(text: &mut String, row: &Row) -> Result<(), AllocError> {
 }
 
 // Appends the rows of a subarray that are not all 0.
-fn push_rows(text: &mut String, chain: &Chain, sub: u8) -> Result<(), AllocError> {
+fn push_rows(text: &mut String, chain: &Chain, sub: u8) -> Result<(), AllocError>
+    requires { sub < 32 }
+{
     for number in 0..ROWS {
         let row = chain.row(sub, number);
         if row.count() > 0 {
