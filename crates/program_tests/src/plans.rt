@@ -57,6 +57,13 @@ const QUOTIENT: u32 = 0x8621_a257;
 
 const REMAINDER: u32 = 0x8e21_a257;
 
+// vsra.vv v4, v2, v3; vmul.vv v4, v2, v3; and vmacc.vv v4, v3, v2.
+const SIGNED_SHIFT: u32 = 0xa621_8257;
+
+const PRODUCT: u32 = 0x9621_a257;
+
+const PRODUCT_ADDED: u32 = 0xb621_a257;
+
 // vwmulu.vv v4, v2, v3; and vwmaccsu.vv v4, v3, v2.
 const WIDE_PRODUCT: u32 = 0xe221_a257;
 
@@ -88,7 +95,7 @@ struct Row {
     cost: Cost,
 }
 
-static ROWS: [Row; 15] = [
+static ROWS: [Row; 18] = [
     // no carry passes into the next element
     Row {
         word: ADD,
@@ -243,6 +250,38 @@ static ROWS: [Row; 15] = [
         ],
         cost: (256, 70, 30),
     },
+    // 9 is 1 of the amounts of 8 bits, and the sign comes in
+    Row {
+        word: SIGNED_SHIFT,
+        vtype: E8_M1,
+        vl: 1,
+        policy: Policy::Keep,
+        before: &[Word(2, 0, 0x0000_0080), Word(3, 0, 0x0000_0009)],
+        after: &[Word(4, 0, 0x0000_00c0)],
+        cost: (64, 55, 35),
+    },
+    Row {
+        word: PRODUCT,
+        vtype: E8_M1,
+        vl: 2,
+        policy: Policy::Keep,
+        before: &[Word(2, 0, 0x0000_0503), Word(3, 0, 0x0000_0702)],
+        after: &[Word(4, 0, 0x0000_2306)],
+        cost: (1044, 276, 184),
+    },
+    Row {
+        word: PRODUCT_ADDED,
+        vtype: E8_M1,
+        vl: 1,
+        policy: Policy::Keep,
+        before: &[
+            Word(2, 0, 0x0000_0003),
+            Word(3, 0, 0x0000_0002),
+            Word(4, 0, 0x0000_0001),
+        ],
+        after: &[Word(4, 0, 0x0000_0007)],
+        cost: (1106, 293, 191),
+    },
     // products of bytes without a sign
     Row {
         word: WIDE_PRODUCT,
@@ -275,9 +314,10 @@ fn is_planned(op: VOp) -> bool
     ensures { result ≡ true → is_on_elements op ≡ true }
 {
     match op {
-        VOp::Opi(OpiOp::Vadd | OpiOp::Vmseq | OpiOp::Vsll | OpiOp::Vnsrl) => true,
+        VOp::Opi(OpiOp::Vadd | OpiOp::Vmseq | OpiOp::Vsll | OpiOp::Vsra | OpiOp::Vnsrl) => true,
         VOp::Opm(OpmOp::VsextVf2 | OpmOp::Vwaddu) => true,
         VOp::Opm(OpmOp::Vwmulu | OpmOp::Vwmaccsu) => true,
+        VOp::Opm(OpmOp::Vmul | OpmOp::Vmacc) => true,
         VOp::Opm(OpmOp::Vmulhsu | OpmOp::Vmadd | OpmOp::Vnmsac) => true,
         VOp::Opm(OpmOp::Vdiv | OpmOp::Vrem) => true,
         _ => false,
