@@ -1,7 +1,7 @@
 #!/usr/bin/env bash
 # Times a guest that touches 16,384 pages at random, and one that touches 16 of as many: the first is to take no more than
 # twice the time of the second. The executable model runs the first too. Skips the model where it is missing.
-#   bench/pages.sh [CAPE]     CAPE: the built program, crates/cape/out/cape by default
+#   bench/pages.sh [CAPE] [RUNS]     CAPE: the built program, crates/cape/out/cape by default; RUNS of each, 3 by default
 source "$(dirname "$0")/common.sh"
 cape="${1:-$top/crates/cape/out/cape}"
 need_built "$cape" cape
@@ -74,8 +74,8 @@ PYTHON
 
 pages_image 4 >"$work/few"
 pages_image 14 >"$work/all"
-few=$(least_time 3 "$cape" run "$work/few")
-echo "16 pages: $((few / 1000000)) ms"
-all=$(least_time 3 "$cape" run "$work/all")
-echo "16,384 pages: $((all / 1000000)) ms, $((all * 100 / few)) hundredths of it"
-race 3 "$cape" run "$work/all"
+few=$(least_time "${2:-3}" "$cape" run "$work/few")
+echo "16 pages: $few ms"
+all=$(least_time "${2:-3}" "$cape" run "$work/all")
+echo "16,384 pages: $all ms, $((all * 100 / (few > 0 ? few : 1))) hundredths of it"
+race "words of 16,384 pages" "${2:-3}" "$cape" run "$work/all"
