@@ -1,0 +1,3 @@
+-- Lemmas on texts of pieces, and on the bits of a row.
+pub mod PieceLemmas
+pub mod WorkLemmas
