@@ -1,7 +1,7 @@
 // The texts about what a run took.
 ghost use Rattle.std.specs.Prelude.{◌≡◌, ◌+◌, ◌≤◌, ◌++◌, codes, decimal, length};
 ghost use Rattle.arrayvec.specs.ArrayString.{array_string_len};
-ghost use Rattle.run_texts.specs.CountTexts.{counts_text, bench_line as line_for};
+ghost use Rattle.run_texts.specs.CountTexts.{counts_text, bench_line as line_for, counts_end};
 
 use cam_chain::Counts;
 use itoa::Buffer;
@@ -39,7 +39,7 @@ pub fn counts_lines(retired: u64, counts: Counts) -> LineBuf
 // Appends the searches, updates and passes, and the end of the line.
 fn push_counts(line: &mut LineBuf, counts: Counts)
     requires { array_string_len line.old ≤ 90 }
-    ensures { line.new.bytes ≡ line.old.bytes ++ codes " searches " ++ decimal counts.searches ++ codes " updates " ++ decimal counts.updates ++ codes " passes " ++ decimal counts.passes ++ codes "\n" }
+    ensures { line.new.bytes ≡ line.old.bytes ++ counts_end counts }
 {
     let mut digits = Buffer::new();
     line.push_str(" searches ");

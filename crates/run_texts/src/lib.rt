@@ -1,4 +1,5 @@
-//! Texts about a run: the lines of what it took, and the work rows and tags of its slices.
+//! Texts about a run: the lines of what it took, and the work rows and tags of its slices. They are for the options of a
+//! run that show these, which are not built yet.
 #![tactic(auto)]
 
 mod counts;
