@@ -75,7 +75,7 @@ PYTHON
 pages_image 4 >"$work/few"
 pages_image 14 >"$work/all"
 few=$(least_time 3 "$cape" run "$work/few")
-echo "16 pages: $((few / 1000000)) ms"
+echo "16 pages: $few ms"
 all=$(least_time 3 "$cape" run "$work/all")
-echo "16,384 pages: $((all / 1000000)) ms, $((all * 100 / few)) hundredths of it"
-race 3 "$cape" run "$work/all"
+echo "16,384 pages: $all ms, $((all * 100 / (few > 0 ? few : 1))) hundredths of it"
+race "16,384 pages at random" 3 "$cape" run "$work/all"

@@ -17,15 +17,21 @@ from guest import CODE, SETTINGS, image, load
 # The f3 of the forms with a register, a scalar register and an immediate.
 V, X, I = 0, 4, 3
 FORMS = [V, X, I]
+# What the f3 of a product or a division has besides.
+PRODUCT = 2
 
 
 class Kind(typing.NamedTuple):
-    """The funct6 of an instruction, its forms, the values of vm that it has, and whether it writes a mask."""
+    """The funct6 of an instruction, its forms, the values of vm that it has, whether it writes a mask, and f3 beside the form."""
 
     funct6: int
     forms: list
     unmasked: list
     writes_mask: bool = False
+    f3: int = 0
+
+    def word(self, unmasked, vs2, vs1, form, vd):
+        return vector_word(self.funct6, unmasked, vs2, vs1, form | self.f3, vd)
 
 
 EITHER, ALWAYS, NEVER = [0, 0, 0, 1, 1], [0], [1]
@@ -34,6 +40,7 @@ KINDS = [
     *(Kind(funct6, FORMS, EITHER) for funct6 in (0, 9, 10, 11)),  # vadd, vand, vor, vxor
     *(Kind(funct6, [V, X], EITHER) for funct6 in (2, 4, 5, 6, 7)),  # vsub, vminu, vmin, vmaxu, vmax
     Kind(3, [X, I], EITHER),  # vrsub
+    *(Kind(funct6, FORMS, EITHER) for funct6 in (37, 40, 41)),  # vsll, vsrl, vsra
     Kind(16, FORMS, ALWAYS),  # vadc
     Kind(18, [V, X], ALWAYS),  # vsbc
     MERGE,
@@ -43,11 +50,14 @@ KINDS = [
     *(Kind(funct6, FORMS, EITHER, True) for funct6 in (24, 25, 28, 29)),  # vmseq, vmsne, vmsleu, vmsle
     *(Kind(funct6, [V, X], EITHER, True) for funct6 in (26, 27)),  # vmsltu, vmslt
     *(Kind(funct6, [X, I], EITHER, True) for funct6 in (30, 31)),  # vmsgtu, vmsgt
+    *(Kind(funct6, [V, X], EITHER, f3=PRODUCT) for funct6 in (32, 33, 34, 35)),  # vdivu, vdiv, vremu, vrem
+    *(Kind(funct6, [V, X], EITHER, f3=PRODUCT) for funct6 in (36, 37, 38, 39)),  # vmulhu, vmul, vmulhsu, vmulh
+    *(Kind(funct6, [V, X], EITHER, f3=PRODUCT) for funct6 in (41, 43, 45, 47)),  # vmadd, vnmsub, vmacc, vnmsac
 ]
 MASK_KINDS = [kind for kind in KINDS if kind.writes_mask]
 # The kinds that have a masked word and do not write a mask, and those that lack a form or a value of vm.
 MASKED_KINDS = [kind for kind in KINDS if 0 in kind.unmasked and not kind.writes_mask]
-FORM_LESS = [kind for kind in KINDS if len(kind.forms) < len(FORMS)]
+FORM_LESS = [kind for kind in KINDS if len(kind.forms) < len(FORMS) and kind.f3 != PRODUCT]
 MASK_LESS = [kind for kind in KINDS if kind.unmasked == ALWAYS and kind != MERGE]
 # The funct6 that no OPI word has, and the f3 of the forms on floating-point numbers, which do not exist here.
 NO_ROW = [8, 13, 20, 21, 22, 36, 38]
@@ -170,7 +180,7 @@ class Program:
                 immediate_word(16, DRAWN, 5, SHIFTED),
                 register_word(0, DRAWN, SHIFTED, 4, SHIFTED),
                 set_first(ELEMENT),
-                vector_word(MOVE.funct6, 1, 0, SHIFTED, X, register),
+                MOVE.word(1, 0, SHIFTED, X, register),
             ]
         self.words.append(immediate_word(apart, ELEMENT, 0, ELEMENT))
         self.words.append(branch_below(ELEMENT, LENGTHS[1], 4 * (again - len(self.words))))
@@ -288,14 +298,41 @@ class Program:
         form, vs2, vs1 = self.sources(kind)
         unmasked = rng.choice(kind.unmasked)
         vd = self.destination(kind, unmasked, form, vs2, vs1)
-        return vector_word(kind.funct6, unmasked, 0 if kind == MOVE else vs2, vs1, form, vd)
+        return kind.word(unmasked, 0 if kind == MOVE else vs2, vs1, form, vd)
 
     def alike(self):
         """Makes elements of a group equal to another operand where the mask is 1, for the next word."""
         form = self.rng.choice(FORMS)
         vs2 = self.spared_group()
         vs1 = self.second(form, vs2)
-        self.words.append(vector_word(MERGE.funct6, 0, vs2, vs1, form, vs2))
+        self.words.append(MERGE.word(0, vs2, vs1, form, vs2))
+        self.pair = form, vs2, vs1
+
+    def corner(self, register):
+        """Puts 0, 1, all ones, the least or the greatest number of the present width into a scalar register."""
+        least = 1 << sew(self.vtype) - 1
+        self.words += load(register, self.rng.choice([0, 1, MOST, least, least - 1]))
+
+    def put_corner(self, group):
+        """Makes elements of a group a corner: where the mask is 1, or from an element on."""
+        self.corner(FROM)
+        if self.rng.random() < 0.5:
+            self.words.append(MERGE.word(0, group, FROM, X, group))
+        else:
+            self.words += load(AVL, self.rng.randrange(max(1, self.vl))) + [set_first(AVL)]
+            self.words.append(MOVE.word(1, 0, FROM, X, group))
+
+    def corners(self):
+        """Makes elements of both operands corners, for the next word."""
+        form = self.rng.choice([V, V, X])
+        vs2 = self.spared_group()
+        self.put_corner(vs2)
+        if form == V:
+            vs1 = self.spared_group()
+            self.put_corner(vs1)
+        else:
+            vs1 = self.rng.choice(SCALARS[1:])
+            self.corner(vs1)
         self.pair = form, vs2, vs1
 
     def mask(self):
@@ -303,7 +340,7 @@ class Program:
         self.configure(E32_M1, self.vlen // 32)
         drawn = self.rng.getrandbits(32)
         self.words += load(FROM, self.rng.choice([0, MOST, drawn, drawn]))
-        self.words.append(vector_word(MOVE.funct6, 1, 0, FROM, X, 0))
+        self.words.append(MOVE.word(1, 0, FROM, X, 0))
 
     def round(self, fresh):
         """Perhaps a mask, a setting and a first element, and one word of the kinds."""
@@ -316,8 +353,11 @@ class Program:
             vtype = self.any_type()
             kept = self.keeps_vlmax(vtype) and rng.random() < 0.4
             self.configure(vtype, self.vl if kept else self.any_length(vtype))
-        if rng.random() < 0.2:
+        made = rng.random()
+        if made < 0.2:
             self.alike()
+        elif made < 0.5:
+            self.corners()
         if rng.random() < 0.5:
             self.start()
         self.words.append(self.any_word())
@@ -344,7 +384,7 @@ class Program:
         places = [0] * (not kind.writes_mask) + [1] * (kind != MOVE) + [2] * (form == V)
         registers[rng.choice(places)] |= rng.randrange(1, self.registers())
         vd, vs2, vs1 = registers
-        return vector_word(kind.funct6, unmasked, vs2, vs1, form, vd)
+        return kind.word(unmasked, vs2, vs1, form, vd)
 
     def in_source(self):
         """A mask is written into a source, but not into its first register."""
@@ -353,13 +393,13 @@ class Program:
         form, vs2, vs1 = self.sources(kind)
         source = rng.choice([vs2, vs1] if form == V else [vs2])
         vd = source + rng.randrange(1, self.registers())
-        return vector_word(kind.funct6, rng.choice(kind.unmasked), vs2, vs1, form, vd)
+        return kind.word(rng.choice(kind.unmasked), vs2, vs1, form, vd)
 
     def masks_itself(self):
         """A masked word whose destination is the mask."""
         kind = self.rng.choice(MASKED_KINDS)
         form, vs2, vs1 = self.sources(kind)
-        return vector_word(kind.funct6, 0, vs2, vs1, form, 0)
+        return kind.word(0, vs2, vs1, form, 0)
 
     def no_type(self):
         """A word that is legal under every vector type, and no vector type."""
@@ -373,7 +413,7 @@ class Program:
         """A move that names a second source."""
         form, vs2, vs1 = self.sources(MOVE)
         vd = self.destination(MOVE, 1, form, vs2, vs1)
-        return vector_word(MOVE.funct6, 1, self.rng.randrange(1, 32), vs1, form, vd)
+        return MOVE.word(1, self.rng.randrange(1, 32), vs1, form, vd)
 
     def no_row(self):
         """A word near the kinds that no instruction has."""
@@ -388,10 +428,10 @@ class Program:
         if rng.random() < 0.3:
             kind = rng.choice(MASK_LESS)
             form, vs2, vs1 = self.sources(kind)
-            return vector_word(kind.funct6, 1, vs2, vs1, form, self.spared_group())
+            return kind.word(1, vs2, vs1, form, self.spared_group())
         kind = rng.choice(FORM_LESS)
         form = rng.choice([form for form in FORMS if form not in kind.forms])
-        return vector_word(kind.funct6, rng.choice(kind.unmasked), self.group(), self.group(), form, self.spared_group())
+        return kind.word(rng.choice(kind.unmasked), self.group(), self.group(), form, self.spared_group())
 
 
 def told_by(program, path, options, environment):

@@ -1,8 +1,8 @@
 #!/usr/bin/env bash
 # Compares the last states of `cape run --state` with the executable model on random programs of the instructions on
-# integers that add, subtract, compare, choose, merge, move or act bit by bit: all forms, settings, masks, policies and first
-# elements, equal and overlapping registers, nine in ten legal, at VLEN 32, 64, 128, 1,024 and, one in forty, 65,536. The
-# programs are told by their seeds. Skips where the model is missing.
+# integers that add, subtract, multiply, divide, shift, compare, choose, merge, move or act bit by bit: all forms, settings,
+# masks, policies and first elements, equal and overlapping registers, corners of a width as operands, nine in ten legal, at
+# VLEN 32, 64, 128, 1,024 and, one in forty, 65,536. The programs are told by their seeds. Skips where the model is missing.
 #   scripts/compare_vectors.sh [CAPE] [FIRST] [LAST]
 #     CAPE         the built program, crates/cape/out/cape by default
 #     FIRST, LAST  the seeds, 1 to 2,000 by default

@@ -12,3 +12,4 @@ pub use kernels::{
 };
 pub use planes::Planes;
 pub use row::Row;
+pub use sizes::{MAX_COLUMNS, MAX_WORDS, SUBARRAYS, WORD_BITS};

@@ -11,3 +11,4 @@ pub mod Sets
 pub mod Searching
 pub mod Updating
 pub mod Passing
+pub mod Registers

@@ -1,4 +1,4 @@
-//! Cases: what they ask for, and what is told of them.
+//! Cases: what they ask for, and what their reports say.
 use crate::files::file_of;
 use crate::parts::{
     Fault, Shown, Unread, bytes_of, fault_of, push_image, row_of, shown_of, words_of,
@@ -13,10 +13,10 @@ const HEAD: &str = "case ";
 // What begins a comment.
 const COMMENT: char = '#';
 
-// What is told of a case of no form.
+// The report of a case of no form.
 const NO_FORM: &str = "form\n";
 
-/// What a case gave so far: the file `A`, the input, the calls of devices that fail, and what is told of a machine.
+/// What a case gave so far: the file `A`, the input, the calls of devices that fail, and what is shown of a machine.
 #[derive(Drop)]
 pub(crate) struct Case {
     pub image: Vec<u32>,
@@ -74,21 +74,21 @@ impl Case {
         Ok(file)
     }
 
-    // Calls the top call with these words, and appends what is told of it.
-    fn push_call(&self, alloc: Global, told: &mut String, text: &str) -> Result<(), Unread> {
+    // Calls the top call with these words, and appends its report.
+    fn push_call(&self, alloc: Global, report: &mut String, text: &str) -> Result<(), Unread> {
         let words = words_of(alloc, text)?;
         let ended = end_of(alloc, &words, self, &self.file(alloc)?)?;
-        push_ended(told, &ended, &self.shown)?;
+        push_ended(report, &ended, &self.shown)?;
         Ok(())
     }
 
     // Takes a line after the first.
-    fn take_line(&mut self, alloc: Global, told: &mut String, line: &str) -> Result<(), Unread> {
+    fn take_line(&mut self, alloc: Global, report: &mut String, line: &str) -> Result<(), Unread> {
         let (head, text) = line.split_once(' ').unwrap_or((line, ""));
         match head {
             "call" => {
-                writeln!(told, "{line}")?;
-                self.push_call(alloc, told, text)?;
+                writeln!(report, "{line}")?;
+                self.push_call(alloc, report, text)?;
             }
             "code" => {
                 self.is_code = true;
@@ -108,35 +108,35 @@ impl Case {
     }
 }
 
-// Appends what is told of the lines after the first.
-fn push_told(alloc: Global, told: &mut String, lines: &str) -> Result<(), Unread> {
+// Appends the report of the lines after the first.
+fn push_report(alloc: Global, report: &mut String, lines: &str) -> Result<(), Unread> {
     let mut case = Case::new(alloc);
     for line in lines.lines() {
         if !line.starts_with(COMMENT) {
-            case.take_line(alloc, told, line)?;
+            case.take_line(alloc, report, line)?;
         }
     }
     Ok(())
 }
 
-/// What is told of a case, and an empty line. Of nothing, and of a comment, nothing is told.
-pub(crate) fn told_of(alloc: Global, lines: &str) -> Result<String, AllocError> {
-    let mut told = String::new(alloc);
+/// The report of a case, and an empty line. Nothing, and a comment, have none.
+pub(crate) fn report_of(alloc: Global, lines: &str) -> Result<String, AllocError> {
+    let mut report = String::new(alloc);
     let lines = lines.trim();
     if lines.is_empty() || lines.starts_with(COMMENT) {
-        return Ok(told);
+        return Ok(report);
     }
     let (head, rest) = lines.split_once('\n').unwrap_or((lines, ""));
-    writeln!(told, "{head}")?;
+    writeln!(report, "{head}")?;
     if !head.starts_with(HEAD) {
-        told.push_str(NO_FORM)?;
-        return Ok(told);
+        report.push_str(NO_FORM)?;
+        return Ok(report);
     }
-    match push_told(alloc, &mut told, rest) {
+    match push_report(alloc, &mut report, rest) {
         Ok(()) => {}
-        Err(Unread::Form) => told.push_str(NO_FORM)?,
+        Err(Unread::Form) => report.push_str(NO_FORM)?,
         Err(Unread::NoMemory) => return Err(AllocError),
     }
-    told.push('\n')?;
-    Ok(told)
+    report.push('\n')?;
+    Ok(report)
 }

@@ -10,8 +10,8 @@
 //! input TEXT           the input, which gives one byte a call
 //! fails file N         call N of the file fails, from 0; likewise `fails input N`
 //! fails out N BYTES    put N of the output fails, after so many bytes; likewise `fails err N BYTES`
-//! show ITEM..          what is told of the machine that is kept: `x5` and `v5` are registers, `setting` the vector setting
-//! row SUB ROW          a row of a subarray of the slices is told too
+//! show ITEM..          what is shown of the machine that is kept: `x5` and `v5` are registers, `setting` the vector setting
+//! row SUB ROW          a row of a subarray of the slices is shown too
 //! call WORD..          calls the top call with these words, and with all that the lines above it gave; `""` is the empty
 //!                      word
 //! ```
@@ -19,7 +19,7 @@
 //! A word of an image is a hexadecimal number, stored with its lowest byte first; `WORD*N` stands for N of it. Numbers are
 //! decimal. In a text `\n` is the end of a line, and `\xHH` a byte.
 //!
-//! A case is told by its name and these lines for each call, and by `form` at its first line of no such form:
+//! The report of a case is its name, these lines for each call, and `form` at its first line of no such form:
 //!
 //! ```text
 //! call WORD..          the call
@@ -40,7 +40,7 @@ mod parts;
 mod runs;
 mod texts;
 
-use cases::told_of;
+use cases::report_of;
 use std::io;
 use std::io::{BufWriter, Write};
 
@@ -52,7 +52,7 @@ fn main(rt: HostRuntime) -> io::Result<()> {
     let text = io::read_to_string(alloc, rt.stdin())?;
     let mut out = BufWriter::new(alloc, rt.stdout())?;
     for lines in text.as_str().split(GAP) {
-        out.write_all(told_of(alloc, lines)?.as_bytes())?;
+        out.write_all(report_of(alloc, lines)?.as_bytes())?;
     }
     out.flush()
 }

@@ -50,7 +50,7 @@ pub(crate) struct Slice {
     ghost row_named: { row < 64 },
 }
 
-/// What is told of a machine.
+/// What is shown of a machine.
 #[derive(Clone, Copy)]
 pub(crate) enum Shown {
     Scalar(Register),
@@ -68,7 +68,7 @@ pub(crate) enum Fault {
     Err(u64, usize),
 }
 
-/// What is told where the part of a `show` line says so.
+/// What is shown where the part of a `show` line says so.
 pub(crate) fn shown_of(part: &str) -> Option<Shown> {
     if part == "setting" {
         return Some(Shown::Setting);

@@ -1,4 +1,4 @@
-//! What is told of a call that ended.
+//! The report of a call that ended.
 ghost use Rattle.std.specs.Prelude.{◌<◌};
 
 use crate::parts::{Register, Shown, Slice};

@@ -1,8 +1,12 @@
 -- Elements of groups of registers, once as numbers of bytes and once as numbers of bits (vector extension 1.0, chapter 4).
-use Rattle.std.specs.Prelude.{◌≡◌, ℕ, ◌+◌, ◌-◌, ◌*◌, ◌/◌, ◌%◌, ◌^◌, ◌<◌, Bool, cond, ◌&&◌, eqb, List, [], length, slice_index_or}
+use Rattle.std.specs.Prelude.{◌≡◌, ℕ, ◌+◌, ◌-◌, ◌*◌, ◌/◌, ◌%◌, ◌^◌, ◌<◌, ◌⊎◌, Bool, cond, ◌&&◌, eqb, List, [], length, slice_index_or}
 use lib.Dec.{ltb, leb}
 use Rattle.bit_laws.specs.Numbers.{number, little, bit_of, byte_of}
 use Rattle.bit_laws.specs.Lists.{tabulate}
+
+-- how many bytes an element may have
+abbrev pub IsSize : ℕ → Type 0
+IsSize size = (size ≡ 1) ⊎ ((size ≡ 2) ⊎ (size ≡ 4))
 
 -- element e, of w bits, of a list of bytes: the little-endian number of its bytes
 unfoldable pub element_at : List ℕ → (w e : ℕ) → ℕ

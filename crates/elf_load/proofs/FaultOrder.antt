@@ -10,7 +10,7 @@ use Rattle.guest_mem.specs.Pages.{page_of, page_size}
 use Rattle.guest_mem.specs.Spans.{span_of}
 use Rattle.elf_load.specs.Layout.{top, spans, heap_start, heap_limit, heap_end, all_apart, none_wraps, regions, bytes_fit}
 use Rattle.elf_load.specs.Faults.{holds, first_of, faults, header_faults, segment_faults, layout_faults, fault, any_above_memsz, any_past_file, any_wraps, image_header_size, is_executable}
-use Rattle.elf_load.proofs.LayoutLemmas.{AreSound, map-span_of-regions, bytes_fit-regions, start_behind-le, start_behind-mod, heap_limit-ge, heap_limit-le, heap_limit-mod, all_apart-mapped_spans, none_wraps-mapped_spans}
+use Rattle.elf_load.proofs.LayoutLemmas.{AreSound, map-span_of-regions, bytes_fit-regions, start_after-le, start_after-mod, heap_limit-ge, heap_limit-le, heap_limit-mod, all_apart-mapped_spans, none_wraps-mapped_spans}
 
 -- the first option that is there
 abbrev pub or_else : Option LoadFault → Option LoadFault → Option LoadFault
@@ -156,7 +156,7 @@ bytes_fit-no_fault image e = bytes_fit-regions image (HasSoundSegments-from_none
 pub heap_start-no_fault : (image : List ℕ) → fault image ≡ None → (heap_start image ≤ top) × (heap_start image % page_size ≡ 0)
 unfolding heap_start
 heap_start-no_fault image e =
-    (start_behind-le (segments image) (HasSoundSegments-from_none image (HasNoFault-from_none image e).segments).sound, start_behind-mod (segments image))
+    (start_after-le (segments image) (HasSoundSegments-from_none image (HasNoFault-from_none image e).segments).sound, start_after-mod (segments image))
 
 pub heap_end-no_fault : (image : List ℕ) → fault image ≡ None → (heap_start image ≤ heap_end image) × (heap_end image ≤ top) × (heap_end image % page_size ≡ 0)
 unfolding heap_end

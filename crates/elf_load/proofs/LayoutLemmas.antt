@@ -12,7 +12,7 @@ use Rattle.guest_mem.specs.declared.spans.Span.{Span}
 use Rattle.elf_load.specs.Headers.{segments, headers, is_segment, is_load, end_of}
 use Rattle.guest_mem.specs.Pages.{page_size}
 use Rattle.guest_mem.specs.Spans.{span_of}
-use Rattle.elf_load.specs.Layout.{stack_start, stack_end, top, heap_size, highest_end, rounded_up, start_behind, heap_start, heap_bound, heap_limit, segment_span, stack_span, heap_at, heap_span, mapped_spans, spans, apart, all_apart, none_wraps, ends_inside, bytes_fit, region_fits, region_of, segment_region, regions}
+use Rattle.elf_load.specs.Layout.{stack_start, stack_end, top, heap_size, highest_end, rounded_up, start_after, heap_start, heap_bound, heap_limit, segment_span, stack_span, heap_at, heap_span, mapped_spans, spans, apart, all_apart, none_wraps, ends_inside, bytes_fit, region_fits, region_of, segment_region, regions}
 use Rattle.elf_load.specs.Faults.{any_wraps, any_overlap, any_over_stack, any_above_memsz, overlaps, is_over_stack}
 
 -- segments that end below the top, share no byte, and have none of the stack
@@ -114,7 +114,7 @@ heap_at-beside start low beside =
 -- Ranges that share no byte.
 
 -- the heap's start is after each segment, and off the stack
-pub record IsBehind (hs : List Header) (heap : Span) : Type 0 where
+pub record IsAfter (hs : List Header) (heap : Span) : Type 0 where
   pub after : highest_end hs ≤ heap.start
   pub off_stack : apart stack_span heap ≡ true
 
@@ -138,7 +138,7 @@ segment-off_stack h e =
       | inr below ↦ or_left _ _ (or_left _ _ (or_left _ _ (le-leb _ _ below)))
     ]
 
-pub all_apart-mapped : (hs : List Header) (heap : Span) → any_overlap hs ≡ false → any_over_stack hs ≡ false → IsBehind hs heap
+pub all_apart-mapped : (hs : List Header) (heap : Span) → any_overlap hs ≡ false → any_over_stack hs ≡ false → IsAfter hs heap
     → all_apart (map segment_span hs ++ stack_span ∷ heap ∷ []) ≡ true
 unfolding all_apart highest_end
 all_apart-mapped [] heap disjoint beside after = and_from _ _ (and_from _ _ after.off_stack refl) refl
@@ -154,17 +154,17 @@ all_apart-mapped (h ∷ hs) heap disjoint beside after =
     list_all-append (apart (segment_span h)) (map segment_span hs) (stack_span ∷ heap ∷ []) ∙ and_from _ _ others ends in
     and_from _ _ here (all_apart-mapped hs heap pairs.1 stacks.1 (record { after = omega arith; off_stack = after.off_stack }))
 
-pub start_behind-le : (hs : List Header) → AreSound hs → start_behind hs ≤ top
-unfolding start_behind
-start_behind-le hs sound = rounded_up-le (highest_end hs) (highest_end-le hs sound.below)
+pub start_after-le : (hs : List Header) → AreSound hs → start_after hs ≤ top
+unfolding start_after
+start_after-le hs sound = rounded_up-le (highest_end hs) (highest_end-le hs sound.below)
 
-pub start_behind-mod : (hs : List Header) → start_behind hs % page_size ≡ 0
-unfolding start_behind
-start_behind-mod hs = rounded_up-mod (highest_end hs)
+pub start_after-mod : (hs : List Header) → start_after hs % page_size ≡ 0
+unfolding start_after
+start_after-mod hs = rounded_up-mod (highest_end hs)
 
-pub IsBehind-heap_at : (hs : List Header) → AreSound hs → IsBehind hs (heap_at (start_behind hs))
-unfolding start_behind
-IsBehind-heap_at hs sound = record {
+pub IsAfter-heap_at : (hs : List Header) → AreSound hs → IsAfter hs (heap_at (start_after hs))
+unfolding start_after
+IsAfter-heap_at hs sound = record {
   after = rounded_up-ge (highest_end hs);
   off_stack = heap_at-beside (rounded_up (highest_end hs)) (rounded_up-le (highest_end hs) (highest_end-le hs sound.below))
       (elim (highest_end-beside hs sound.beside) as (λ _. (rounded_up (highest_end hs) ≤ stack_start) ⊎ (stack_end ≤ rounded_up (highest_end hs))) [
@@ -175,7 +175,7 @@ IsBehind-heap_at hs sound = record {
 
 pub all_apart-mapped_spans : (hs : List Header) → AreSound hs → all_apart (mapped_spans hs) ≡ true
 unfolding mapped_spans
-all_apart-mapped_spans hs sound = all_apart-mapped hs (heap_at (start_behind hs)) sound.disjoint sound.beside (IsBehind-heap_at hs sound)
+all_apart-mapped_spans hs sound = all_apart-mapped hs (heap_at (start_after hs)) sound.disjoint sound.beside (IsAfter-heap_at hs sound)
 
 -- Ranges that do not wrap.
 
@@ -188,8 +188,8 @@ segments-inside (h ∷ hs) e =
 pub none_wraps-mapped_spans : (hs : List Header) → AreSound hs → none_wraps (mapped_spans hs) ≡ true
 unfolding mapped_spans
 none_wraps-mapped_spans hs sound =
-    let start = start_behind hs in
-    let low : start ≤ top = start_behind-le hs sound in
+    let start = start_after hs in
+    let low : start ≤ top = start_after-le hs sound in
     let segments_end : list_all ends_inside (map segment_span hs) ≡ true = list_all-map ends_inside segment_span hs ∙ segments-inside hs sound.below in
     let heap_ends : ends_inside (heap_at start) ≡ true = le-leb _ _ (omega (arith, heap_limit-ge start low, heap_limit-le start low)) in
     list_all-append ends_inside (map segment_span hs) (stack_span ∷ heap_at start ∷ []) ∙ and_from _ _ segments_end (and_from _ _ refl (and_from _ _ heap_ends refl))
@@ -200,7 +200,7 @@ none_wraps-mapped_spans hs sound =
 pub map-span_of-regions : (image : List ℕ) → map span_of (regions image) ≡ spans image
 unfolding regions spans mapped_spans heap_start
 map-span_of-regions image =
-    map-append span_of (map (segment_region image) (segments image)) _ ∙ ap (λ ss. ss ++ stack_span ∷ heap_at (start_behind (segments image)) ∷ []) (map-map span_of (segment_region image) (segments image))
+    map-append span_of (map (segment_region image) (segments image)) _ ∙ ap (λ ss. ss ++ stack_span ∷ heap_at (start_after (segments image)) ∷ []) (map-map span_of (segment_region image) (segments image))
 
 segment_region-fits : (image : List ℕ) (h : Header) → h.filesz ≤ h.memsz → region_fits (segment_region image h) ≡ true
 segment_region-fits image h low = le-leb _ _ (omega (arith, length-take h.filesz (drop h.offset image)))
@@ -241,10 +241,10 @@ pub highest_end-done : (hs : List Header) (k : ℕ) → length hs ≤ k → high
 unfolding highest_end
 highest_end-done hs k done = rw (drop_all k hs done) refl
 
-pub start_behind-is : (hs : List Header) → start_behind hs ≡ rounded_up (highest_end hs)
-unfolding start_behind
-start_behind-is hs = refl
+pub start_after-is : (hs : List Header) → start_after hs ≡ rounded_up (highest_end hs)
+unfolding start_after
+start_after-is hs = refl
 
 pub ruleset highest_end_steps = (highest_end-more, highest_end-done)
 
-pub ruleset heap_steps = (highest_end-le, start_behind-is)
+pub ruleset heap_steps = (highest_end-le, start_after-is)

@@ -68,7 +68,7 @@ is_too_large image = not (is_none (segments image)) && nat_lt page_limit (page_c
 abbrev pub is_bad_entry : List ℕ → Bool
 is_bad_entry image = not (entry image % 4 == 0) || not (is_executable image (page_of (entry image)))
 
--- the sentence of each fault; want of memory is none of the image's
+-- the sentence of each fault; an image has none that says that memory was wanting
 abbrev pub holds : LoadFault → List ℕ → Bool
 holds TooBig image = nat_lt image_limit (length image)
 holds TooShort image = nat_lt (length image) image_header_size

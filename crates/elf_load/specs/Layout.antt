@@ -41,12 +41,12 @@ abbrev pub rounded_up : ℕ → ℕ
 rounded_up n = (n + (page_size - 1)) / page_size * page_size
 
 -- the first page's start after all segments
-unfoldable pub start_behind : List Header → ℕ
-start_behind hs = rounded_up (highest_end hs)
+unfoldable pub start_after : List Header → ℕ
+start_after hs = rounded_up (highest_end hs)
 
 -- the heap starts after all segments, at a page's start
 unfoldable pub heap_start : List ℕ → ℕ
-heap_start image = start_behind (segments image)
+heap_start image = start_after (segments image)
 
 -- what a heap that starts there may not pass: the stack where it starts below it, and else the top
 abbrev pub heap_bound : ℕ → ℕ
@@ -75,7 +75,7 @@ heap_span image = heap_at (heap_start image)
 
 -- all that is mapped for segments
 unfoldable pub mapped_spans : List Header → List Span
-mapped_spans hs = map segment_span hs ++ stack_span ∷ heap_at (start_behind hs) ∷ []
+mapped_spans hs = map segment_span hs ++ stack_span ∷ heap_at (start_after hs) ∷ []
 
 -- all that is mapped of an image
 unfoldable pub spans : List ℕ → List Span

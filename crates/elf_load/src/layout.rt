@@ -1,6 +1,6 @@
 // Where things lie in memory: the segments, the stack, and the heap after the segments.
 ghost use Rattle.std.specs.Prelude.{◌≡◌, ◌≤◌, length, false};
-ghost use Rattle.elf_load.specs.Layout.{read_write, highest_end, start_behind, heap_at, segment_span, stack_span, mapped_spans};
+ghost use Rattle.elf_load.specs.Layout.{read_write, highest_end, start_after, heap_at, segment_span, stack_span, mapped_spans};
 ghost use Rattle.elf_load.specs.Faults.{any_wraps};
 
 use crate::headers::{HEADER_LIMIT, Header};
@@ -48,7 +48,7 @@ fn highest_end_of(segments: &[Header]) -> u64
 #[tactic(auto, using(crate::proofs::LayoutLemmas::heap_steps))]
 pub fn heap_of(segments: &[Header]) -> Span
     requires { any_wraps segments.now ≡ false }
-    ensures { result ≡ heap_at (start_behind segments.now) }
+    ensures { result ≡ heap_at (start_after segments.now) }
 {
     let end = highest_end_of(segments) as u32;
     let start = (end + (PAGE_SIZE - 1)) / PAGE_SIZE * PAGE_SIZE;
@@ -90,7 +90,7 @@ pub fn stack() -> Span
 #[tactic(auto, unfolding(crate::specs::Layout::mapped_spans))]
 pub fn spans_of(segments: &[Header], heap: Span) -> ArrayVec<Span, SPAN_LIMIT>
     requires few { length segments.now ≤ HEADER_LIMIT }
-    requires heap { heap ≡ heap_at (start_behind segments.now) }
+    requires heap { heap ≡ heap_at (start_after segments.now) }
     ensures { result.items ≡ mapped_spans segments.now }
 {
     let mut spans = ArrayVec::new();

@@ -32,7 +32,7 @@ use Rattle.frame_laws.specs.Classes.Operands.{operand_of, IsReadable}
 use Rattle.frame_laws.specs.Classes.Plain.{plain_value, IsPlain}
 use Rattle.frame_laws.proofs.Classes.Plain.{plain_bytes_law}
 use Rattle.frame_meaning.specs.declared.Order.{Order}
-use Rattle.frame_meaning.specs.declared.Order.TheVariants.{Straight, Reversed, Second}
+use Rattle.frame_meaning.specs.declared.Order.TheVariants.{Straight, Reversed, Second, Exchanged}
 use Rattle.frame_meaning.specs.Shapes.{source_in_vs1, has_scalar, scalar_in, scalar_of, row_in, class_in, operands_in, value_in, elements_in, shape_in, program_in}
 use Rattle.frame_meaning.specs.Laws.{Runs, IgnoresFirst, ElementsMeaningLaw}
 use Rattle.frame_meaning.specs.Costs.{cost_of, length_of, ElementsMeasured, ElementsCostLaw}
@@ -137,6 +137,7 @@ module _ (order : Order) (o : Operation) (i : VInstr) (c : Cfg) (x : ℕ) where
 sew-groups : (order : Order) (i : VInstr) (c : Cfg) (s : Slices) → Runs i c s → class_of i.op ≡ class_in order → SewGroups i c.vtype
 sew-groups Straight i c s runs class = (legal_plain_law i c.vtype c.vstart runs.setting runs.legal class).0
 sew-groups Reversed i c s runs class = (legal_plain_law i c.vtype c.vstart runs.setting runs.legal class).0
+sew-groups Exchanged i c s runs class = (legal_plain_law i c.vtype c.vstart runs.setting runs.legal class).0
 sew-groups Second i c s runs class = legal_move_law i c.vtype c.vstart runs.setting runs.legal class
 
 is-plain : (order : Order) (o : Operation) (i : VInstr) (c : Cfg) (x : ℕ) (s : Slices) → Runs i c s → class_of i.op ≡ class_in order
@@ -161,6 +162,16 @@ is-plain Reversed o i c x s runs class =
       a = second-readable (shape_in Reversed i c x o) i.form i.vs1 groups.vs1 refl refl;
       b = facts.1;
       addend = (groups.room, inl refl);
+    }
+is-plain Exchanged o i c x s runs class =
+    let facts = legal_plain_law i c.vtype c.vstart runs.setting runs.legal class in
+    let groups = facts.0 in
+    record {
+      framed = framed Exchanged o i c x groups s.columns runs.long;
+      result = λ v e m. refl;
+      a = (groups.room, inl refl);
+      b = second-readable (shape_in Exchanged i c x o) i.form i.vs1 groups.vs1 refl refl;
+      addend = facts.1;
     }
 is-plain Second o i c x s runs class =
     let groups = legal_move_law i c.vtype c.vstart runs.setting runs.legal class in
@@ -194,6 +205,14 @@ values Reversed o i c x v e ignores least small =
     let second = operand_of (source_in_vs1 i.form i.vs1) (c.vlen / 8) w (scalar_in i.form o.signed_immediate w i.vs1 x) v e in
     ap (λ (z : ℕ). o.value w c.vxrm z second d m) (sym (extended-same o.signed_a w (element_of (c.vlen / 8) v i.vs2 w e)))
     ∙ ap (λ (z : ℕ). o.value w c.vxrm (meaning.operand_a i c x at o v e) z d m) (second-value i c x at o i.form v e refl refl least small)
+values Exchanged o i c x v e ignores least small =
+    let w = c.vtype.sew in
+    let at = row_in Exchanged w in
+    let d = meaning.operand_d i c x at o v e in
+    let m = meaning.mask_operand i c x at o v e in
+    let second = operand_of (source_in_vs1 i.form i.vs1) (c.vlen / 8) w (scalar_in i.form o.signed_immediate w i.vs1 x) v e in
+    ap (λ (z : ℕ). o.value w c.vxrm z second d m) (sym (extended-same o.signed_a w (element_of (c.vlen / 8) v i.vs2 w e)))
+    ∙ ap (λ (z : ℕ). o.value w c.vxrm (meaning.operand_a i c x at o v e) z d m) (second-value i c x at o i.form v e refl refl least small)
 values Second o i c x v e ignores least small =
     let w = c.vtype.sew in
     let at = row_in Second w in
@@ -208,17 +227,20 @@ row-of-class : (order : Order) (class : Class) (sew : ℕ) (i : VInstr) → clas
 unfolding row_of
 row-of-class Straight class sew i is = rw is refl
 row-of-class Reversed class sew i is = rw is refl
+row-of-class Exchanged class sew i is = rw is refl
 row-of-class Second class sew i is = rw is refl
 
 -- the destination of each order
 vd-width : (order : Order) (c : Cfg) → width_at c.vtype (row_in order c.vtype.sew).vd ≡ c.vtype.sew
 vd-width Straight c = refl
 vd-width Reversed c = refl
+vd-width Exchanged c = refl
 vd-width Second c = refl
 
 vd-count : (order : Order) (c : Cfg) → 0 < c.vtype.sew → count_at c.vtype (row_in order c.vtype.sew).vd ≡ group_count c.vtype
 vd-count Straight c some = count-sew c.vtype some
 vd-count Reversed c some = count-sew c.vtype some
+vd-count Exchanged c some = count-sew c.vtype some
 vd-count Second c some = count-sew c.vtype some
 
 -- what the instruction writes, with the registers that LMUL says, is what it means

@@ -17,7 +17,7 @@ use Rattle.frame_laws.specs.Programs.{program}
 use Rattle.frame_laws.specs.Classes.Operands.{Operand, group, scalar}
 use Rattle.frame_laws.specs.Classes.Plain.{Operands, Value, plain_result}
 use Rattle.frame_meaning.specs.declared.Order.{Order}
-use Rattle.frame_meaning.specs.declared.Order.TheVariants.{Straight, Reversed, Second}
+use Rattle.frame_meaning.specs.declared.Order.TheVariants.{Straight, Reversed, Second, Exchanged}
 
 -- The shape of an instruction that writes elements. The program needs besides whether the mask is an operand, the scalar
 -- where there is one, with the bits of its elements, and the results as numbers of bits.
@@ -70,23 +70,27 @@ scalar_of i c x signed = scalar_in i.form signed c.vtype.sew i.vs1 x
 abbrev pub row_in : Order → (sew : ℕ) → Row
 row_in Straight sew = row (group_place sew) (group_place sew) (group_place sew)
 row_in Reversed sew = row (group_place sew) (group_place sew) (group_place sew)
+row_in Exchanged sew = row (group_place sew) (group_place sew) (group_place sew)
 row_in Second sew = row (group_place sew) nothing (group_place sew)
 
 abbrev pub class_in : Order → Class
 class_in Straight = plain
 class_in Reversed = plain
+class_in Exchanged = plain
 class_in Second = move
 
--- the operands as the list takes them; a third one is the destination as it was
+-- the operands as the list takes them; one of them is the destination as it was
 abbrev pub operands_in : Order → VInstr → Operands
 operands_in Straight i = record { a = group i.vs2; b = source_in_vs1 i.form i.vs1; addend = group i.vd }
 operands_in Reversed i = record { a = source_in_vs1 i.form i.vs1; b = group i.vs2; addend = group i.vd }
+operands_in Exchanged i = record { a = group i.vd; b = source_in_vs1 i.form i.vs1; addend = group i.vs2 }
 operands_in Second i = record { a = group i.vd; b = source_in_vs1 i.form i.vs1; addend = group i.vd }
 
 -- the value of an operation, from the list's operands and the mask bit
 abbrev pub value_in : Order → VInstr → Cfg → Operation → Value
 value_in Straight i c o a b addend m = o.value c.vtype.sew c.vxrm a b (cond o.takes_old addend 0) (reads_mask i o && m)
 value_in Reversed i c o a b addend m = o.value c.vtype.sew c.vxrm b a (cond o.takes_old addend 0) (reads_mask i o && m)
+value_in Exchanged i c o a b addend m = o.value c.vtype.sew c.vxrm addend b (cond o.takes_old a 0) (reads_mask i o && m)
 value_in Second i c o a b addend m = o.value c.vtype.sew c.vxrm a b (cond o.takes_old addend 0) (reads_mask i o && m)
 
 -- what the instruction writes: elements of SEW bits, in as many registers as LMUL says

@@ -6,13 +6,15 @@ ghost use Rattle.frame_meaning.specs.Costs.{ElementsCostLaw};
 ghost use Rattle.frame_meaning.specs.Laws.{MeaningLaw, MaskMeaningLaw, ElementsMeaningLaw};
 ghost use Rattle.frame_meaning.specs.Masks.{CompareMeaningLaw, CompareCostLaw};
 
-/// How a list takes the operands of an instruction: that of vs2 first and then that in the place of vs1; these two in
-/// reversed order; or that in the place of vs1 alone.
+/// How a list takes the operands of an instruction, and the destination as it was where that is one: vs2, then what stands in
+/// the place of vs1, then the destination; the first two in reversed order; what stands in the place of vs1 alone; or the
+/// destination, then what stands in the place of vs1, then vs2.
 #[derive(Clone, Copy, Debug, PartialEq, Eq)]
 pub enum Order {
     Straight,
     Reversed,
     Second,
+    Exchanged,
 }
 
 /// The registers of the frame are those of the meaning.

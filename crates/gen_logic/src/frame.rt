@@ -18,7 +18,7 @@ use micro_ir::{FREE_ROW, MicroBuf, MicroOp, Place, SCALAR_ROW, emit_clear, emit_
 const ONES_ON: [u8; 1] = [1];
 
 // How many subarrays there are.
-const SUBARRAYS: u32 = 32;
+const SUBARRAYS: u32 = bit_rows::SUBARRAYS as u32;
 
 // The subarrays that hold the places of an element where a scalar has ones.
 fn ones_of<W: Width>(scalar: u32) -> u32

@@ -9,3 +9,4 @@ pub mod Writing
 pub mod Meeting
 pub mod Laying
 pub mod Opening
+pub mod Mapping

@@ -5,3 +5,4 @@ pub mod Ranges
 pub mod Spans
 pub mod Opening
 pub mod Laying
+pub mod Mapping

@@ -95,7 +95,7 @@ lies : (vt : Vtype) (w first : ℕ) → has_element_width (group w) ≡ true →
 lies vt w first fits is = let p = placed vt w first is in (element-width w (rw p.legal at fits), p.place)
 
 -- Under vill no class is legal that needs a setting.
-in_setting : (class : Class) (vt : Vtype) → needs_no_setting class ≡ false → has_setting class vt ≡ true → vt.vill ≡ false
+pub in_setting : (class : Class) (vt : Vtype) → needs_no_setting class ≡ false → has_setting class vt ≡ true → vt.vill ≡ false
 unfolding has_setting
 in_setting class vt needs has =
     ⊎_elim
@@ -106,11 +106,11 @@ in_setting class vt needs has =
 -- ---- the laws
 
 -- what the rules say of an instruction with this destination, and of its sources
-record Obeyed (class : Class) (i : VInstr) (vt : Vtype) (o : Operand) : Type 0 where
-  setting : has_setting class vt ≡ true
-  place : is_placed o ≡ true
-  spares : spares_mask class i.vm o ≡ true
-  sources : Sources class i vt (λ s first. (is_placed (groups_at vt 1 s first) ≡ true) × (overlaps_legally (overlap_of class i) o (groups_at vt 1 s first) ≡ true))
+pub record Obeyed (class : Class) (i : VInstr) (vt : Vtype) (o : Operand) : Type 0 where
+  pub setting : has_setting class vt ≡ true
+  pub place : is_placed o ≡ true
+  pub spares : spares_mask class i.vm o ≡ true
+  pub sources : Sources class i vt (λ s first. (is_placed (groups_at vt 1 s first) ≡ true) × (overlaps_legally (overlap_of class i) o (groups_at vt 1 s first) ≡ true))
 
 -- what a test of the operands in vs3, vs2 and vs1 says of those in vs2 and vs1
 two-sources : (test : Operand → Bool) (a b c : Option Operand) → list_all (if_there test) (a ∷ b ∷ c ∷ []) ≡ true → (if_there test b ≡ true) × (if_there test c ≡ true)
@@ -123,7 +123,7 @@ two-sources test a b c all =
 in_vector : (test : Operand → Bool) (vt : Vtype) (first : ℕ) (form : Form) (place : Place) (s : ℕ) → form ≡ V → place ≡ group s → if_there test (operand_at vt first (in_form form place)) ≡ true → test (groups_at vt 1 s first) ≡ true
 in_vector test vt first form place s is at h = rw (at, is) at h
 
-obeyed : (class : Class) (i : VInstr) (vt : Vtype) (vstart : ℕ) (o : Operand) → is_legal i vt vstart ≡ true → class_of i.op ≡ class → operand_at vt i.vd (row_of class vt.sew i).vd ≡ Some o → Obeyed class i vt o
+pub obeyed : (class : Class) (i : VInstr) (vt : Vtype) (vstart : ℕ) (o : Operand) → is_legal i vt vstart ≡ true → class_of i.op ≡ class → operand_at vt i.vd (row_of class vt.sew i).vd ≡ Some o → Obeyed class i vt o
 unfolding is_legal obeys_rules are_placed writes_legally destination_of sources_of
 obeyed class i vt vstart o legal is there =
     let h : obeys_rules class i vt vstart ≡ true = rw is at legal in

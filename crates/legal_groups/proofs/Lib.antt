@@ -3,3 +3,4 @@ pub mod Widths
 pub mod Overlaps
 pub mod Laws
 pub mod Groups
+pub mod Accesses

@@ -3,9 +3,9 @@ use Rattle.std.specs.Prelude.{◌≡◌, ℕ, suc, ◌+◌, ◌-◌, ◌*◌, �
 use Rattle.rvv_decode.specs.declared.instruction.VInstr.{VInstr}
 use Rattle.rvv_decode.specs.declared.instruction.Form.TheVariants.{V}
 use Rattle.vtype_cfg.specs.declared.vtype.Vtype.{Vtype}
-use Rattle.vtype_cfg.specs.Settings.{is_vill_or_supported}
-use Rattle.vtype_cfg.specs.Groups.{groups_at, group_registers}
-use Rattle.vtype_cfg.specs.Classes.{Class, plain, move, compare, class_of, mask, group, row_of}
+use Rattle.vtype_cfg.specs.Settings.{is_supported, is_vill_or_supported}
+use Rattle.vtype_cfg.specs.Groups.{emul_of, groups_at, group_registers}
+use Rattle.vtype_cfg.specs.Classes.{Class, plain, move, compare, load, store, indexed_load, indexed_store, whole_load, whole_store, mask_load, mask_store, class_of, mask, group, row_of}
 use Rattle.vtype_cfg.specs.Legality.{is_legal}
 
 -- ---- groups by the widths of their elements
@@ -124,3 +124,53 @@ LegalMoveLaw = Follows move SewGroups
 -- A comparison has two such groups and a mask as its destination, as a carry out has.
 abbrev pub LegalCompareLaw : Type 0
 LegalCompareLaw = Follows compare MaskGroups
+
+-- ---- loads and stores
+
+-- the instruction spares the mask that it reads
+abbrev pub SparesMask : VInstr → Type 0
+SparesMask i = i.vm ≡ false → 0 < i.vd
+
+-- The registers that a load or a store moves under a setting: a group of elements of d bits for each field, one after the
+-- other from vd on.
+pub record FieldGroups (i : VInstr) (vt : Vtype) (d : ℕ) : Type 0 where
+  pub supported : is_supported vt ≡ true
+  pub vill : vt.vill ≡ false
+  pub sew : IsElementWidth vt.sew
+  pub few : i.nf * registers_for vt d ≤ 8
+  pub room : i.vd + i.nf * registers_for vt d ≤ 32
+
+-- How the indices of a load may lie to the one group of fields, or to the groups: before them; after them; from the same
+-- register on, where they are no narrower than the elements; or as the last registers, where they are no wider and fill them.
+abbrev pub IndexBeside : VInstr → Vtype → Type 0
+IndexBeside i vt =
+    (i.vs2 + registers_for vt i.eew ≤ i.vd)
+    ⊎ ((i.vd + i.nf * registers_for vt vt.sew ≤ i.vs2)
+    ⊎ (((i.nf ≡ 1) × (i.vs2 ≡ i.vd) × (vt.sew ≤ i.eew))
+    ⊎ ((i.nf ≡ 1) × (i.vs2 + registers_for vt i.eew ≡ i.vd + registers_for vt vt.sew) × (i.eew ≤ vt.sew) × (8 ≤ emul_of vt i.eew))))
+
+-- the indices lie within the registers
+abbrev pub IndexRoom : VInstr → Vtype → Type 0
+IndexRoom i vt = i.vs2 + registers_for vt i.eew ≤ 32
+
+-- the whole registers, and the one of a mask
+abbrev pub WholeRoom : VInstr → Vtype → Type 0
+WholeRoom i vt = i.vd + i.nf ≤ 32
+
+abbrev pub MaskRoom : VInstr → Vtype → Type 0
+MaskRoom i vt = (vt.vill ≡ false) × (i.vd < 32)
+
+-- what a legal load or store of a class has, which has a field at least
+abbrev pub FollowsAccess : Class → (VInstr → Vtype → Type 0) → Type 0
+FollowsAccess class fact = Follows class (λ i vt. 0 < i.nf → fact i vt)
+
+-- every class of loads and stores
+pub record LegalAccessLaw : Type 0 where
+  pub loads : FollowsAccess load (λ i vt. SparesMask i × FieldGroups i vt i.eew)
+  pub stores : FollowsAccess store (λ i vt. FieldGroups i vt i.eew)
+  pub indexed_loads : FollowsAccess indexed_load (λ i vt. (SparesMask i × FieldGroups i vt vt.sew) × (IndexRoom i vt × IndexBeside i vt))
+  pub indexed_stores : FollowsAccess indexed_store (λ i vt. FieldGroups i vt vt.sew × IndexRoom i vt)
+  pub whole_loads : FollowsAccess whole_load WholeRoom
+  pub whole_stores : FollowsAccess whole_store WholeRoom
+  pub mask_loads : FollowsAccess mask_load MaskRoom
+  pub mask_stores : FollowsAccess mask_store MaskRoom

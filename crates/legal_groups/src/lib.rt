@@ -3,7 +3,7 @@
 //! function here is a law.
 #![tactic(auto)]
 
-ghost use Rattle.legal_groups.specs.Facts.{LegalGroupLaw, LegalMaskLaw, LegalPlainLaw, LegalMoveLaw, LegalCompareLaw};
+ghost use Rattle.legal_groups.specs.Facts.{LegalGroupLaw, LegalMaskLaw, LegalPlainLaw, LegalMoveLaw, LegalCompareLaw, LegalAccessLaw};
 
 /// The groups of a legal instruction that writes a group, whatever the widths of its elements, lie
 /// within the registers, and written in their order none is overwritten before it has been read.
@@ -30,4 +30,10 @@ pub fn legal_move_law()
 /// The mask that a legal comparison writes is the lowest register of a source or apart from it.
 pub fn legal_compare_law()
     ensures law { LegalCompareLaw }
+{}
+
+/// The registers that a legal load or store moves, and those of its indices, lie within the registers.
+/// A load spares the mask that it reads, and reads each index before it writes over it.
+pub fn legal_access_law()
+    ensures law { LegalAccessLaw }
 {}

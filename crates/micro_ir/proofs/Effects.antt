@@ -7,7 +7,9 @@ use Rattle.micro_ir.specs.Steps.{Step, searches, micro, micros, element, step_on
 use Rattle.micro_ir.specs.WorkRows.{active_row, broadcast_row}
 use Rattle.micro_ir.specs.Pieces.{above, below, clear, commit, ups, downs, broadcast}
 use Rattle.micro_ir.specs.Effects.{Makes, Clears, Commits, Broadcasts, Costs}
-use Rattle.micro_ir.proofs.Lift.{element-outside, replay-columns, replay-num, micros-element}
+use Rattle.micro_ir.proofs.Lists.{replay-num}
+use Rattle.micro_ir.proofs.Keeping.{micros-keep}
+use Rattle.micro_ir.proofs.Lift.{element-outside, replay-columns, micros-element}
 use Rattle.micro_ir.proofs.OneElement.{hit, fires-hit, step-row, clear-here, commit-here, commit-row, clear-fits, commit-fits, above-else, above-here, above-fits, below-else, below-here, below-fits}
 use Rattle.micro_ir.proofs.Folds.{copy-whole}
 use Rattle.micro_ir.proofs.PieceLists.{clear-list, commit-list}
@@ -29,7 +31,7 @@ makes w what steps fits inside outside = record {
       (λ (l : w ≤ i). element-outside w k col (replay (micros w steps) s) r i l ∙ sym (outside e r i l (λ row. element-outside w k col s row i l)))
       (cases_lt i w) in
       λ x r i. place r i x;
-  num = replay-num (micros w steps);
+  num = λ s. replay-num (micros w steps) s (micros-keep w steps);
   columns = replay-columns (micros w steps);
 }
 
@@ -220,7 +222,7 @@ commit-cost w row to = tally-micros w (commit w row to)
 abbrev counts : (searches updates passes : ℕ) → Counts
 counts searches updates passes = record { searches = searches; updates = updates; passes = passes }
 
-counts-same : (a b c x y z : ℕ) → a ≡ x → b ≡ y → c ≡ z → counts a b c ≡ counts x y z
+pub counts-same : (a b c x y z : ℕ) → a ≡ x → b ≡ y → c ≡ z → counts a b c ≡ counts x y z
 counts-same a b c x y z p q r = λ i. counts (p i) (q i) (r i)
 
 pub ups-counts : (row j n : ℕ) → steps_counts (ups row j n) ≡ counts n n n

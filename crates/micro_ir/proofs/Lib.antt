@@ -4,6 +4,7 @@ pub mod Subs
 pub mod Folds
 pub mod Lift
 pub mod StepLists
+pub mod Keeping
 pub mod OneElement
 pub mod Effects
 pub mod TableLists
@@ -14,3 +15,5 @@ pub mod Scalars
 pub mod Committed
 pub mod Measuring
 pub mod Valued
+pub mod Ripples
+pub mod Incrementing

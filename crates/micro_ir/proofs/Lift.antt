@@ -6,9 +6,11 @@ use Rattle.micro_ir.proofs.Subs.{selected-of}
 use Rattle.bit_rows.specs.Slices.{Slices, placed}
 use Rattle.cam_chain.specs.Slices.{selected, matches, searched, updated, passed}
 use Rattle.micro_ir.specs.declared.op.MicroOp.{MicroOp}
-use Rattle.micro_ir.specs.declared.op.MicroOp.TheVariants.{Search, Update, Pass, Window, Free, PackMask}
+use Rattle.micro_ir.specs.declared.op.MicroOp.TheVariants.{Search, Update, Pass, Window, Free, PackMask, UpdateBy, Spread, Narrow, Slide, Pick, Index, SetNum, Count, First, Below}
 use Rattle.micro_ir.specs.Replay.{effect, replay}
 use Rattle.steer_net.specs.Network.{windowed, freed, packed}
+use Rattle.steer_net.specs.Moves.{widened, narrowed, slid, picked, indexed, marked_below}
+use Rattle.micro_ir.specs.ControlNumbers.{with_num, counted, first_found, updated_by}
 use Rattle.micro_ir.specs.Subs.{subs_of}
 use Rattle.micro_ir.specs.Folding.{has_whole, table_keys, searches_for, any_match}
 use Rattle.micro_ir.proofs.Folds.{table-count, table-writes}
@@ -239,17 +241,16 @@ replay-columns (Pass up times ∷ ops) s = replay-columns ops (passed up times s
 replay-columns (Window row width first from to masked ∷ ops) s = replay-columns ops (windowed row width first from to masked s)
 replay-columns (Free row width first from to masked tail off ∷ ops) s = replay-columns ops (freed row width first from to masked tail off s)
 replay-columns (PackMask from under to width first ∷ ops) s = replay-columns ops (packed from under to width first s)
-
--- a replay leaves the control number
-pub replay-num : (ops : List MicroOp) (s : Slices) → (replay ops s).num ≡ s.num
-unfolding replay
-replay-num [] s = refl
-replay-num (Search subs keys join ∷ ops) s = replay-num ops (searched subs keys join s)
-replay-num (Update subs row bit ∷ ops) s = replay-num ops (updated subs row bit s)
-replay-num (Pass up times ∷ ops) s = replay-num ops (passed up times s)
-replay-num (Window row width first from to masked ∷ ops) s = replay-num ops (windowed row width first from to masked s)
-replay-num (Free row width first from to masked tail off ∷ ops) s = replay-num ops (freed row width first from to masked tail off s)
-replay-num (PackMask from under to width first ∷ ops) s = replay-num ops (packed from under to width first s)
+replay-columns (UpdateBy row width ∷ ops) s = replay-columns ops (updated_by row width s)
+replay-columns (Spread from to narrow wide part ∷ ops) s = replay-columns ops (widened from to narrow wide part s)
+replay-columns (Narrow from to wide part ∷ ops) s = replay-columns ops (narrowed from to wide part s)
+replay-columns (Slide to base width first up by limit ∷ ops) s = replay-columns ops (slid to base width first up by limit s)
+replay-columns (Pick to base width index limit ∷ ops) s = replay-columns ops (picked to base width index limit s)
+replay-columns (Index to width first ∷ ops) s = replay-columns ops (indexed to width first s)
+replay-columns (SetNum num ∷ ops) s = replay-columns ops (with_num num s)
+replay-columns (Count subs bit how ∷ ops) s = replay-columns ops (counted subs bit how s)
+replay-columns (First ∷ ops) s = replay-columns ops (first_found s)
+replay-columns (Below to how ∷ ops) s = replay-columns ops (marked_below to how s)
 
 cond_same : (b x : Bool) → cond b x x ≡ x
 cond_same true x = refl
@@ -268,6 +269,22 @@ replay-outside (Free to width first from below masked tail off ∷ ops) s sub ro
     replay-outside ops (freed to width first from below masked tail off s) sub row col out ∙ rw out (cond_same (eqb row to) (s.bit sub row col))
 replay-outside (PackMask from under to width first ∷ ops) s sub row col out =
     replay-outside ops (packed from under to width first s) sub row col out ∙ rw out (cond_same (eqb row to) (s.bit sub row col))
+replay-outside (UpdateBy to width ∷ ops) s sub row col out = replay-outside ops (updated_by to width s) sub row col out ∙ rw out refl
+replay-outside (Spread from to narrow wide part ∷ ops) s sub row col out =
+    replay-outside ops (widened from to narrow wide part s) sub row col out ∙ rw out (cond_same (eqb row to) (s.bit sub row col))
+replay-outside (Narrow from to wide part ∷ ops) s sub row col out =
+    replay-outside ops (narrowed from to wide part s) sub row col out ∙ rw out (cond_same (eqb row to) (s.bit sub row col))
+replay-outside (Slide to base width first up by limit ∷ ops) s sub row col out =
+    replay-outside ops (slid to base width first up by limit s) sub row col out ∙ rw out (cond_same (eqb row to) (s.bit sub row col))
+replay-outside (Pick to base width index limit ∷ ops) s sub row col out =
+    replay-outside ops (picked to base width index limit s) sub row col out ∙ rw out (cond_same (eqb row to) (s.bit sub row col))
+replay-outside (Index to width first ∷ ops) s sub row col out =
+    replay-outside ops (indexed to width first s) sub row col out ∙ rw out (cond_same (eqb row to) (s.bit sub row col))
+replay-outside (SetNum num ∷ ops) s sub row col out = replay-outside ops (with_num num s) sub row col out
+replay-outside (Count subs bit how ∷ ops) s sub row col out = replay-outside ops (counted subs bit how s) sub row col out
+replay-outside (First ∷ ops) s sub row col out = replay-outside ops (first_found s) sub row col out
+replay-outside (Below to how ∷ ops) s sub row col out =
+    replay-outside ops (marked_below to how s) sub row col out ∙ rw out (cond_same (eqb row to) (s.bit sub row col))
 
 -- a list of steps acts on each element by itself
 pub micros-element : (w k col : ℕ) (steps : List Step) (s : Slices) → AllFit w steps → k * w + w ≤ 32 → col < s.columns

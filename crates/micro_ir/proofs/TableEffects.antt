@@ -14,8 +14,9 @@ use Rattle.micro_ir.specs.Tables.{moved_subs, table_list, rows_list}
 use Rattle.micro_ir.proofs.Folds.{table-count, table-found, apart-whole}
 use Rattle.micro_ir.proofs.TableLists.{rows-apart}
 use Rattle.micro_ir.specs.Effects.{tag_source, OrsValues}
-use Rattle.micro_ir.proofs.Lists.{replay-append}
-use Rattle.micro_ir.proofs.Lift.{searches-bit, searches-columns, fresh-tag, passed-tag, passed-bit, passed-columns, replay-columns, replay-num, replay-outside, place_true}
+use Rattle.micro_ir.proofs.Lists.{replay-append, replay-num}
+use Rattle.micro_ir.proofs.Keeping.{rows-keep}
+use Rattle.micro_ir.proofs.Lift.{searches-bit, searches-columns, fresh-tag, passed-tag, passed-bit, passed-columns, replay-columns, replay-outside, place_true}
 use Rattle.micro_ir.proofs.Shifted.{bit_at-mod, bit_at-shl_low, bit_at-shl_high, bit_at-shr}
 
 -- A tag that arrives in a moved subarray comes from a subarray of the set.
@@ -99,7 +100,7 @@ rows-or subs inputs on out up times small same =
       bits = λ s sub row col h c. rows-bit subs inputs on out up times s sub row col small h c
           ∙ ap (λ b. s.bit sub row col || (eqb row out && selected (moved_subs subs up times) sub && b)) (same (λ r. s.bit (tag_source up times sub) r col));
       outside = replay-outside ops;
-      num = replay-num ops;
+      num = λ s. replay-num ops s (rows-keep subs inputs on out up times);
       columns = replay-columns ops;
     }
 

@@ -1,6 +1,7 @@
 -- Micro-operations, their replay, and table steps.
 pub mod BufValue
 pub mod Listing
+pub mod ControlNumbers
 pub mod Replay
 pub mod Folding
 pub mod Steps
@@ -11,3 +12,4 @@ pub mod Effects
 pub mod Tables
 pub mod Kinds
 pub mod Measures
+pub mod Increments

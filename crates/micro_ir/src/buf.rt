@@ -105,8 +105,8 @@ fn add(counts: &mut Counts, op: &MicroOp)
 {
     match op {
         MicroOp::Search { .. } => counts.searches += 1,
-        MicroOp::Update { .. } => counts.updates += 1,
+        MicroOp::Update { .. } | MicroOp::UpdateBy { .. } => counts.updates += 1,
         MicroOp::Pass { times, .. } => counts.passes += u128::from(*times),
-        MicroOp::Window { .. } | MicroOp::Free { .. } | MicroOp::PackMask { .. } => {}
+        _ => {}
     }
 }

@@ -4,6 +4,7 @@
 mod buf;
 mod control;
 mod folding;
+mod increments;
 mod op;
 mod pieces;
 mod place;
@@ -14,6 +15,7 @@ mod work_rows;
 
 pub use buf::MicroBuf;
 pub use control::Control;
+pub use increments::emit_increment;
 pub use op::MicroOp;
 pub use pieces::{
     BitRange, emit_above, emit_below, emit_broadcast, emit_clear, emit_commit, emit_downs,

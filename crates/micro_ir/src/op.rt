@@ -1,6 +1,9 @@
 use cam_chain::Keys;
+use reduce_tree::How;
+use steer_net::Reach;
 
-/// One operation. Bit s of `subs` selects subarray s; a row is below 64.
+/// One operation. Bit s of `subs` selects subarray s; a row is below 64. The control number and the
+/// clip flag are those of `Control`.
 #[derive(Drop)]
 pub enum MicroOp {
     /// In each selected subarray the tags become the match, or are or-ed with it where `join`.
@@ -54,5 +57,76 @@ pub enum MicroOp {
         to: u8,
         width: u8,
         first: u32,
+    },
+    /// Writes 1 into the row, in the tagged columns of each subarray whose bit in its element of
+    /// `width` bits is 1 in the control number.
+    UpdateBy {
+        row: u8,
+        width: u8,
+    },
+    /// Each element of `wide` bits of the row `to` becomes an element of `narrow` bits of the row
+    /// `from`, extended by zeros: those of the part `part` of that row, in their order.
+    Spread {
+        from: u8,
+        to: u8,
+        narrow: u8,
+        wide: u8,
+        part: u8,
+    },
+    /// The elements of the part `part` of the row `to`, of half as many bits, become the low halves
+    /// of the elements of `wide` bits of the row `from`, in their order. The other part stays.
+    Narrow {
+        from: u8,
+        to: u8,
+        wide: u8,
+        part: u8,
+    },
+    /// Each element of `width` bits of the row `to` becomes the element of the group of registers
+    /// from `base` on whose number is lower by `by` where `up`, and else higher, or 0 where the group
+    /// has none below `limit`. The first element of the row has the number `first`.
+    Slide {
+        to: u8,
+        base: u8,
+        width: u8,
+        first: u32,
+        up: bool,
+        by: u32,
+        limit: u32,
+    },
+    /// Each element of `width` bits of the row `to` becomes the element `index` of the group of
+    /// registers from `base` on, or 0 where the group has none below `limit`.
+    Pick {
+        to: u8,
+        base: u8,
+        width: u8,
+        index: u32,
+        limit: u32,
+    },
+    /// Each element of `width` bits of the row becomes its number, modulo 2 to the power `width`. The
+    /// first element of the row has the number `first`.
+    Index {
+        to: u8,
+        width: u8,
+        first: u32,
+    },
+    /// Sets the control number.
+    SetNum {
+        num: u64,
+    },
+    /// Takes the number of the tags in the selected subarrays into the control number, where each
+    /// stands for the bit `bit` of it, or into the clip flag.
+    Count {
+        subs: u32,
+        bit: u8,
+        how: How,
+    },
+    /// The control number becomes the place of the first tag, or the greatest number of 32 bits where
+    /// no tag is set. The tag of a column in a subarray has the place 32 times the column plus the
+    /// subarray.
+    First,
+    /// Each bit of the row becomes 1 where its place is below the control number, at most it, or it.
+    Below {
+        to: u8,
+        how: Reach,
     },
 }

@@ -1,14 +1,14 @@
 //! Chains made of words, and lists that are carried out on them.
-use crate::ranges::{ROWS, are_in_range};
 use cam_chain::{Chain, Counts};
 use micro_ir::{Control, MicroBuf, replay};
+use op_texts::{ROWS, are_in_range};
 use std::alloc::Global;
 use std::test::Fail;
 
 // The most columns of a chain.
 const MOST_COLUMNS: u32 = 2048;
 
-// Control numbers, which no list changes.
+// Control numbers, which the lists here leave.
 const CONTROL: Control = Control { num: 7, clip: true };
 
 /// Numbers of searches, updates and passes.
@@ -27,7 +27,7 @@ pub(crate) struct Trial {
 }
 
 /// A chain that holds the words.
-fn chain_of(alloc: Global, columns: u32, words: &[Word]) -> Result<Chain, Fail> {
+pub(crate) fn chain_of(alloc: Global, columns: u32, words: &[Word]) -> Result<Chain, Fail> {
     if columns == 0 || columns > MOST_COLUMNS {
         return Err("a number of columns".into());
     }
@@ -42,7 +42,7 @@ fn chain_of(alloc: Global, columns: u32, words: &[Word]) -> Result<Chain, Fail> 
 }
 
 /// Whether the chain holds the words.
-fn holds(chain: &Chain, words: &[Word]) -> bool {
+pub(crate) fn holds(chain: &Chain, words: &[Word]) -> bool {
     for Word(row, column, word) in words {
         if *row >= ROWS || *column >= chain.columns() || chain.read_word(*row, *column) != *word {
             return false;

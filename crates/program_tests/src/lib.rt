@@ -12,10 +12,10 @@ mod kinds;
 #[cfg(test)]
 mod lists;
 #[cfg(test)]
+mod operations;
+#[cfg(test)]
 mod pieces;
 #[cfg(test)]
 mod plans;
-#[cfg(test)]
-mod ranges;
 #[cfg(test)]
 mod runs;

@@ -1,7 +1,10 @@
 //! Vector words that are planned and carried out on registers of 64 bits.
+ghost use Rattle.std.specs.Prelude.{◌≡◌, true};
+ghost use Rattle.rvv_meaning.specs.Vectors.{is_on_elements};
+
 use crate::chains::{Cost, Trial, Word, cost_in, cost_of};
 use micro_ir::MicroBuf;
-use rvv_decode::{OpiOp, VOp, decode_v};
+use rvv_decode::{OpiOp, OpmOp, VOp, decode_v};
 use std::alloc::Global;
 use std::test::Fail;
 use vec_exec::{engine, plan};
@@ -15,8 +18,11 @@ const COLUMNS: u32 = 2;
 // The most micro-operations of one instruction.
 const ROOM: u32 = 262_144;
 
-// The vector types of elements of 8 bits in one register, and of 32 bits in eight; and the flag of agnostic masked elements.
+// The vector types of elements of 8 bits and of 32 bits in one register, and of 32 bits in eight; and the flag of agnostic
+// masked elements.
 const E8_M1: u32 = 0;
+
+const E32_M1: u32 = 0x10;
 
 const E32_M8: u32 = 0x13;
 
@@ -28,6 +34,24 @@ const ADD: u32 = 0x0221_8257;
 const ADD_OF_EIGHT: u32 = 0x030c_0457;
 
 const EQUAL_UNDER_MASK: u32 = 0x6021_8057;
+
+// vmulhsu.vv v4, v2, v3; vmadd.vv v4, v3, v2; vnmsac.vv v4, v3, v2; vdiv.vv v4, v2, v3; and vrem.vv v4, v2, v3.
+const HIGH_PRODUCT: u32 = 0x9a21_a257;
+
+const PRODUCT_AND_ADDEND: u32 = 0xa621_a257;
+
+const LESS_PRODUCT: u32 = 0xbe21_a257;
+
+const QUOTIENT: u32 = 0x8621_a257;
+
+const REMAINDER: u32 = 0x8e21_a257;
+
+// The least number and -5, and the divisors -1 and 0.
+const DIVIDED: &[Word] = &[
+    Word(2, 0, 0x8000_0000),
+    Word(2, 1, 0xffff_fffb),
+    Word(3, 0, 0xffff_ffff),
+];
 
 // Elements 0 to 3 are active, and all are equal but element 1.
 const UNDER_MASK: &[Word] = &[
@@ -48,7 +72,7 @@ struct Row {
     cost: Cost,
 }
 
-static ROWS: [Row; 4] = [
+static ROWS: [Row; 9] = [
     // no carry passes into the next element
     Row {
         word: ADD,
@@ -93,10 +117,80 @@ static ROWS: [Row; 4] = [
         after: &[Word(0, 0, 0xffff_fffd)],
         cost: (47, 11, 7),
     },
+    // -1, 127, -128 and 1 times 255, and 255 has no sign
+    Row {
+        word: HIGH_PRODUCT,
+        vtype: E8_M1,
+        vl: 4,
+        policy: Policy::Keep,
+        before: &[Word(2, 0, 0x0180_7fff), Word(3, 0, 0xffff_ffff)],
+        after: &[Word(4, 0, 0x0080_7eff)],
+        cost: (1161, 302, 198),
+    },
+    // 3 times 5 and 1; 2 times 128 and 1; 255 times 255 and 2; 0 times 1 and 7
+    Row {
+        word: PRODUCT_AND_ADDEND,
+        vtype: E8_M1,
+        vl: 4,
+        policy: Policy::Keep,
+        before: &[
+            Word(2, 0, 0x0702_0101),
+            Word(3, 0, 0x00ff_0203),
+            Word(4, 0, 0x01ff_8005),
+        ],
+        after: &[Word(4, 0, 0x0703_0110)],
+        cost: (1106, 293, 191),
+    },
+    // 5 less 1 times 3; 128 less 1 times 2; 255 less 2 times 255; 1 less 7 times 0
+    Row {
+        word: LESS_PRODUCT,
+        vtype: E8_M1,
+        vl: 4,
+        policy: Policy::Keep,
+        before: &[
+            Word(2, 0, 0x0702_0101),
+            Word(3, 0, 0x00ff_0203),
+            Word(4, 0, 0x01ff_8005),
+        ],
+        after: &[Word(4, 0, 0x0101_7e02)],
+        cost: (1107, 294, 191),
+    },
+    // the quotient of the least number by -1 has no room, and that by 0 is all ones
+    Row {
+        word: QUOTIENT,
+        vtype: E32_M1,
+        vl: 2,
+        policy: Policy::Keep,
+        before: DIVIDED,
+        after: &[Word(4, 0, 0x8000_0000), Word(4, 1, 0xffff_ffff)],
+        cost: (10603, 3854, 3257),
+    },
+    Row {
+        word: REMAINDER,
+        vtype: E32_M1,
+        vl: 2,
+        policy: Policy::Keep,
+        before: DIVIDED,
+        after: &[Word(4, 1, 0xffff_fffb)],
+        cost: (10507, 3822, 3226),
+    },
 ];
 
+// Whether it is an operation of the table.
+#[tactic(auto, unfolding(rvv_meaning::specs::Operations::operation_for))]
+fn is_planned(op: VOp) -> bool
+    ensures { result ≡ true → is_on_elements op ≡ true }
+{
+    match op {
+        VOp::Opi(OpiOp::Vadd | OpiOp::Vmseq) => true,
+        VOp::Opm(OpmOp::Vmulhsu | OpmOp::Vmadd | OpmOp::Vnmsac) => true,
+        VOp::Opm(OpmOp::Vdiv | OpmOp::Vrem) => true,
+        _ => false,
+    }
+}
+
 // The program of the row's word.
-#[tactic(auto, unfolding(vtype_cfg::specs::Settings::is_valid, vtype_cfg::specs::Settings::is_legal_vlen, vtype_cfg::specs::Settings::legal_vlens, rvv_meaning::specs::Operations::operation_for))]
+#[tactic(auto, unfolding(vtype_cfg::specs::Settings::is_valid, vtype_cfg::specs::Settings::is_legal_vlen, vtype_cfg::specs::Settings::legal_vlens))]
 fn program_of(alloc: Global, row: &Row) -> Result<MicroBuf, Fail> {
     let vtype = Vtype::from_bits(row.vtype);
     if row.vl > vtype.vlmax(VLEN) {
@@ -111,8 +205,8 @@ fn program_of(alloc: Global, row: &Row) -> Result<MicroBuf, Fail> {
         policy: row.policy,
     };
     let i = decode_v(row.word).ok_or("a vector word")?;
-    if !matches!(i.op, VOp::Opi(OpiOp::Vadd | OpiOp::Vmseq)) {
-        return Err("a sum or a comparison".into());
+    if !is_planned(i.op) {
+        return Err("an instruction of the table".into());
     }
     if !legal(&i, &cfg.vtype, cfg.vstart, cfg.vlen) {
         return Err("a legal instruction".into());

@@ -3,3 +3,4 @@ pub mod Counting
 pub mod Bits
 pub mod Totals
 pub mod FirstTags
+pub mod Firsts

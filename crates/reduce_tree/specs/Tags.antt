@@ -1,7 +1,8 @@
 -- The tags of a chain by their places: that of column c in subarray s has the place 32 c + s.
-use Rattle.std.specs.Prelude.{ℕ, ◌≡◌, ◌*◌, ◌/◌, ◌%◌, ◌<◌, Bool, true, false, ◌&&◌, eqb, Option, Some, None, MatchOption, min}
+use Rattle.std.specs.Prelude.{ℕ, zero, suc, ◌≡◌, ◌-◌, ◌*◌, ◌/◌, ◌%◌, ◌^◌, ◌<◌, Bool, true, false, cond, ◌&&◌, eqb, Option, Some, None, MatchOption, min}
 use Rattle.std.specs.Int.{bit_at}
 use Rattle.std.specs.List.{count_by, range_with_len}
+use lib.Dec.{ltb}
 use Rattle.bit_rows.specs.Slices.{Slices}
 
 -- the number of places of a chain
@@ -45,3 +46,16 @@ abbrev pub lesser_of : Option ℕ → Option ℕ → Option ℕ
 lesser_of (Some x) (Some y) = Some (min x y)
 lesser_of (Some x) None = Some x
 lesser_of None y = y
+
+-- the least number below n that passes a test, or `none` where no such number does
+unfoldable pub least_below : (none : ℕ) → (test : ℕ → Bool) → (n : ℕ) → ℕ
+least_below none test zero = none
+least_below none test (suc n) = cond (ltb (least_below n test n) n) (least_below n test n) (cond (test n) n none)
+
+-- the number that stands for no place
+abbrev pub no_place : ℕ
+no_place = 2 ^ 32 - 1
+
+-- the least place whose tag is set, or the number for no place
+abbrev pub first_place : Slices → ℕ
+first_place s = least_below no_place (is_tagged s) (places s)

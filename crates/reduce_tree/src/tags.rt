@@ -5,7 +5,7 @@ ghost use Rattle.reduce_tree.specs.Tags.{places, is_tagged, is_selected, tags_in
 use bit_rows::{Planes, count_words, first_bit};
 
 // Each column has a tag in each subarray.
-const SUBARRAYS: u32 = 32;
+const SUBARRAYS: u32 = bit_rows::SUBARRAYS as u32;
 
 /// The number of tags in the selected subarrays: bit s of `subs` selects subarray s.
 pub fn count<P: Planes>(p: &P, subs: u32) -> u32

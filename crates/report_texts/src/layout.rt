@@ -7,10 +7,11 @@ ghost use Rattle.guest_mem.specs.Pages.{page_size};
 ghost use Rattle.guest_mem.specs.Spans.{span_of, is_mapped, page_perms, page_numbers};
 ghost use Rattle.report_texts.specs.Layouts.{perms_of, same_perms, letters, entry_line, map_line, line_of_run, map_lines, layout_text, IsSteady, IsRun};
 
-use crate::text::{Line, push_hex, write_line};
+use crate::text::{push_word, write_line};
 use bitflags::Flags;
 use cape_io::{Failed, Sink};
 use guest_mem::{PAGE_SIZE, PAGES, Perms, Region};
+use line_text::LineBuf;
 
 // The page after the last page of a region.
 fn page_after(region: &Region) -> u32
@@ -110,7 +111,7 @@ fn glyph(is_there: bool, letter: char) -> char
 }
 
 // Appends the letters of permissions.
-fn push_letters(line: &mut Line, perms: Perms)
+fn push_letters(line: &mut LineBuf, perms: Perms)
     requires { array_string_len line.old + 3 ≤ 240 }
     ensures text { line.new.bytes ≡ line.old.bytes ++ letters perms.0 }
     ensures room { array_string_len line.new ≡ array_string_len line.old + 3 }
@@ -122,17 +123,17 @@ fn push_letters(line: &mut Line, perms: Perms)
 
 // The line about the pages from the first on and before another.
 #[tactic(auto, using(crate::proofs::LayoutLemmas::hex_word_wraps))]
-fn map_line(first: u32, after: u32, perms: Perms) -> Line
+fn map_line(first: u32, after: u32, perms: Perms) -> LineBuf
     requires start { first < page_numbers }
     requires end { after ≤ page_numbers }
     ensures { result.bytes ≡ map_line first after perms.0 }
 {
-    let mut line = Line::new();
+    let mut line = LineBuf::new();
     line.push_str("map ");
-    push_hex(&mut line, first * PAGE_SIZE);
+    push_word(&mut line, first * PAGE_SIZE);
     line.push_str(" ");
     // The end of the last page, 2^32, has the digits of 0.
-    push_hex(&mut line, after.wrapping_mul(PAGE_SIZE));
+    push_word(&mut line, after.wrapping_mul(PAGE_SIZE));
     line.push_str(" ");
     push_letters(&mut line, perms);
     line.push_str("\n");
@@ -140,12 +141,12 @@ fn map_line(first: u32, after: u32, perms: Perms) -> Line
 }
 
 // The line about the entry.
-fn entry_line(entry: u32) -> Line
+fn entry_line(entry: u32) -> LineBuf
     ensures { result.bytes ≡ entry_line entry }
 {
-    let mut line = Line::new();
+    let mut line = LineBuf::new();
     line.push_str("ok entry ");
-    push_hex(&mut line, entry);
+    push_word(&mut line, entry);
     line.push_str("\n");
     line
 }

@@ -7,6 +7,7 @@ mod state;
 mod text;
 
 pub use layout::write_layout;
+pub use line_text::LineBuf;
 pub use lines::{refused_line, report_line};
 pub use state::write_state;
-pub use text::{Line, write_line};
+pub use text::write_line;

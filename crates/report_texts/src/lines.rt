@@ -5,14 +5,15 @@ ghost use Rattle.bit_laws.specs.Digits.{hex_word};
 ghost use Rattle.rvv_meaning.specs.Texts.{newline};
 ghost use Rattle.report_texts.specs.Lines.{line_of, refused_line as line_for};
 
-use crate::text::{Line, push_hex};
+use crate::text::push_word;
 use elf_load::LoadFault;
 use guest_mem::Trap;
 use itoa::Buffer;
+use line_text::LineBuf;
 use machine::Step;
 
 // ` after N` and the end of the line.
-fn push_after(line: &mut Line, retired: u64)
+fn push_after(line: &mut LineBuf, retired: u64)
     requires { array_string_len line.old ≤ 100 }
     ensures { line.new.bytes ≡ line.old.bytes ++ codes " after " ++ decimal retired ++ newline }
 {
@@ -23,7 +24,7 @@ fn push_after(line: &mut Line, retired: u64)
 }
 
 // What a trap was.
-fn push_trap(line: &mut Line, trap: Trap)
+fn push_trap(line: &mut LineBuf, trap: Trap)
     requires { array_string_len line.old ≤ 40 }
     ensures text { line.new.bytes ≡ line.old.bytes ++ decimal trap.cause ++ codes " at " ++ hex_word trap.pc ++ codes " value " ++ hex_word trap.value }
     ensures room { array_string_len line.new ≤ array_string_len line.old + 40 }
@@ -31,16 +32,16 @@ fn push_trap(line: &mut Line, trap: Trap)
     let mut digits = Buffer::new();
     line.push_str(digits.format(trap.cause));
     line.push_str(" at ");
-    push_hex(line, trap.pc);
+    push_word(line, trap.pc);
     line.push_str(" value ");
-    push_hex(line, trap.value);
+    push_word(line, trap.value);
 }
 
 /// The line for an answer.
-pub fn report_line(answer: Step, retired: u64) -> Line
+pub fn report_line(answer: Step, retired: u64) -> LineBuf
     ensures { result.bytes ≡ line_of answer retired }
 {
-    let mut line = Line::new();
+    let mut line = LineBuf::new();
     match answer {
         Step::Exited(code) => {
             let mut digits = Buffer::new();
@@ -63,10 +64,10 @@ pub fn report_line(answer: Step, retired: u64) -> Line
 }
 
 /// The line for an image that is refused.
-pub fn refused_line(fault: LoadFault) -> Line
+pub fn refused_line(fault: LoadFault) -> LineBuf
     ensures { result.bytes ≡ line_for fault }
 {
-    let mut line = Line::new();
+    let mut line = LineBuf::new();
     let mut digits = Buffer::new();
     line.push_str("cape: refused ");
     line.push_str(digits.format(fault.number()));

@@ -7,9 +7,10 @@ ghost use Rattle.bit_laws.specs.Digits.{hex_word};
 ghost use Rattle.rvv_meaning.specs.Texts.{newline};
 ghost use Rattle.report_texts.specs.StateTexts.{word_line, number_line, register_line, register_lines, control_lines, hex_byte, vector_byte, vector_bytes, vector_line, vector_lines, state_text, flag};
 
-use crate::text::{Line, push_byte, push_hex, write_line};
+use crate::text::{push_byte, push_word, write_line};
 use cape_io::{Failed, Sink};
 use itoa::Buffer;
+use line_text::LineBuf;
 use machine::Machine;
 use rvv_meaning::Csrs;
 
@@ -23,18 +24,18 @@ const BYTE_BITS: u32 = 8;
 const PIECE: u32 = 64;
 
 // Appends a space, a word and the end of the line.
-fn push_word(line: &mut Line, value: u32)
+fn push_word_line(line: &mut LineBuf, value: u32)
     requires { array_string_len line.old ≤ 200 }
     ensures text { line.new.bytes ≡ line.old.bytes ++ codes " " ++ hex_word value ++ newline }
     ensures room { array_string_len line.new ≤ array_string_len line.old + 10 }
 {
     line.push_str(" ");
-    push_hex(line, value);
+    push_word(line, value);
     line.push_str("\n");
 }
 
 // Appends a space, a number and the end of the line.
-fn push_number(line: &mut Line, value: u32)
+fn push_number(line: &mut LineBuf, value: u32)
     requires { array_string_len line.old ≤ 200 }
     ensures text { line.new.bytes ≡ line.old.bytes ++ codes " " ++ decimal value ++ newline }
     ensures room { array_string_len line.new ≤ array_string_len line.old + 12 }
@@ -46,38 +47,38 @@ fn push_number(line: &mut Line, value: u32)
 }
 
 // The line of the place.
-fn pc_line(pc: u32) -> Line
+fn pc_line(pc: u32) -> LineBuf
     ensures { result.bytes ≡ word_line (codes "pc") pc }
 {
-    let mut line = Line::new();
+    let mut line = LineBuf::new();
     line.push_str("pc");
-    push_word(&mut line, pc);
+    push_word_line(&mut line, pc);
     line
 }
 
 // The line of a register.
-fn register_line(machine: &Machine, r: u8) -> Line
+fn register_line(machine: &Machine, r: u8) -> LineBuf
     requires { r < 32 }
     ensures { result.bytes ≡ register_line machine.now.core r }
 {
-    let mut line = Line::new();
+    let mut line = LineBuf::new();
     let mut digits = Buffer::new();
     line.push_str("x");
     line.push_str(digits.format(r));
-    push_word(&mut line, machine.regs().get(r));
+    push_word_line(&mut line, machine.regs().get(r));
     line
 }
 
 // The lines of the control registers.
 #[tactic(auto, unfolding(crate::specs::StateTexts::control_lines))]
-fn control_lines(csrs: &Csrs) -> Line
+fn control_lines(csrs: &Csrs) -> LineBuf
     ensures { result.bytes ≡ control_lines csrs.now }
 {
-    let mut lines = Line::new();
+    let mut lines = LineBuf::new();
     lines.push_str("vl");
     push_number(&mut lines, csrs.vl);
     lines.push_str("vtype");
-    push_word(&mut lines, csrs.vtype);
+    push_word_line(&mut lines, csrs.vtype);
     lines.push_str("vstart");
     push_number(&mut lines, csrs.vstart);
     lines.push_str("vxrm");
@@ -88,10 +89,10 @@ fn control_lines(csrs: &Csrs) -> Line
 }
 
 // The name of a vector register and a space.
-fn vector_name(r: u8) -> Line
+fn vector_name(r: u8) -> LineBuf
     ensures { result.bytes ≡ codes "v" ++ decimal r ++ codes " " }
 {
-    let mut line = Line::new();
+    let mut line = LineBuf::new();
     let mut digits = Buffer::new();
     line.push_str("v");
     line.push_str(digits.format(r));
@@ -100,23 +101,23 @@ fn vector_name(r: u8) -> Line
 }
 
 // The end of a line.
-fn line_end() -> Line
+fn line_end() -> LineBuf
     ensures { result.bytes ≡ newline }
 {
-    let mut line = Line::new();
+    let mut line = LineBuf::new();
     line.push_str("\n");
     line
 }
 
 // The bytes of a vector register from one on and before another.
-fn byte_digits(machine: &Machine, r: u8, first: u32, after: u32) -> Line
+fn byte_digits(machine: &Machine, r: u8, first: u32, after: u32) -> LineBuf
     requires register { r < 32 }
     requires order { first ≤ after }
     requires end { after ≤ machine.now.core.csrs.vlen / 8 }
     requires few { after ≤ first + 64 }
     ensures { result.bytes ≡ flat_map (vector_byte machine.now.core r) (range_with_len first (after - first)) }
 {
-    let mut line = Line::new();
+    let mut line = LineBuf::new();
     for j in first..after {
         push_byte(&mut line, machine.vreg_byte(r, j));
     }

@@ -6,6 +6,7 @@
 #[cfg(test)]
 mod chains;
 #[cfg(test)]
+mod kernels;
 mod keys;
 #[cfg(test)]
 mod networks;

@@ -16,9 +16,10 @@ use Rattle.rvv_decode.specs.OpmRows.{opm_rows, opm_funct3}
 use Rattle.rvv_decode.specs.ConfigRows.{config_rows}
 use Rattle.rvv_decode.specs.MemoryRows.{load_rows, store_rows}
 use Rattle.rvv_decode.specs.Rows.{rows, means, HasWord}
-use Rattle.rvv_decode.specs.Ranges.{IsInRange}
+use Rattle.rvv_decode.specs.Ranges.{IsInRange, IsAccess}
 use Rattle.rvv_decode.specs.Spelling.{opi_funct6, opm_funct6, arithmetic_fixed, memory_fixed, config_fixed, placed, spelled, FitsName}
 use Rattle.rvv_decode.specs.declared.instruction.VInstr.{VInstr}
+use Rattle.rvv_decode.specs.declared.instruction.MemoryOp.{MemoryOp}
 use Rattle.rvv_decode.specs.declared.instruction.VOp.{VOp}
 use Rattle.rvv_decode.specs.declared.instruction.VOp.TheVariants.{Opi, Opm, Config, Memory}
 use Rattle.rvv_decode.specs.declared.instruction.ConfigOp.TheVariants.{Vsetvli, Vsetivli, Vsetvl}
@@ -101,16 +102,30 @@ pub record Read (op : VOp) (i : VInstr) (w : ℕ) : Type 0 where
   pub name : FitsName op i
   pub range : IsInRange i
 
+-- the operation of an instruction that is no load and no store
+abbrev is_memory : VOp → Bool
+is_memory (Memory op) = true
+is_memory op = false
+
+no-access : (i : VInstr) → is_memory i.op ≡ false → (op : MemoryOp) → i.op ≡ Memory op → IsAccess i
+no-access i other op e = absurd (false≢true (sym other ∙ ap is_memory e))
+
+access-width : (eew : ℕ) → (eew == 8 || (eew == 16 || eew == 32)) ≡ true → (eew ≡ 8) ⊎ ((eew ≡ 16) ⊎ (eew ≡ 32))
+access-width eew e = grind (arith, common_steps)
+
+memory-access : (op : VOp) (eew w : ℕ) → (eew == 8 || (eew == 16 || eew == 32)) ≡ true → IsAccess (instruction (memory eew) op w)
+memory-access op eew w e = record { some = omega arith; eew = access-width eew e }
+
 eew-range : (eew : ℕ) → (eew == 8 || (eew == 16 || eew == 32)) ≡ true → (eew ≡ 0) ⊎ ((eew ≡ 8) ⊎ ((eew ≡ 16) ⊎ (eew ≡ 32)))
 eew-range eew e = grind (arith, common_steps)
 
 read_row : (op : VOp) (l : Layout) (w : ℕ) → suits op l ≡ true → w < 2 ^ 32 → fixed_value op l + placed l (instruction l op w) ≡ w → Read op (instruction l op w) w
-read_row (Opi op) (arithmetic form) w e h s = record { word = s; name = tt; range = search rules }
-read_row (Opm op) (arithmetic form) w e h s = record { word = s; name = tt; range = search rules }
-read_row (Memory op) (memory eew) w e h s = record { word = s; name = omega arith; range = search (rules, eew-range eew e) }
-read_row (Config Vsetvli) immediate_type w e h s = record { word = s; name = tt; range = search rules }
-read_row (Config Vsetivli) both_immediate w e h s = record { word = s; name = omega arith; range = search rules }
-read_row (Config Vsetvl) both_registers w e h s = record { word = s; name = tt; range = search rules }
+read_row (Opi op) (arithmetic form) w e h s = record { word = s; name = tt; range = search (rules, no-access (instruction (arithmetic form) (Opi op) w) refl) }
+read_row (Opm op) (arithmetic form) w e h s = record { word = s; name = tt; range = search (rules, no-access (instruction (arithmetic form) (Opm op) w) refl) }
+read_row (Memory op) (memory eew) w e h s = record { word = s; name = omega arith; range = search (rules, eew-range eew e, memory-access (Memory op) eew w e) }
+read_row (Config Vsetvli) immediate_type w e h s = record { word = s; name = tt; range = search (rules, no-access (instruction immediate_type (Config Vsetvli) w) refl) }
+read_row (Config Vsetivli) both_immediate w e h s = record { word = s; name = omega arith; range = search (rules, no-access (instruction both_immediate (Config Vsetivli) w) refl) }
+read_row (Config Vsetvl) both_registers w e h s = record { word = s; name = tt; range = search (rules, no-access (instruction both_registers (Config Vsetvl) w) refl) }
 read_row _ _ w e h s = absurd (false≢true e)
 
 pub op-instruction : (l : Layout) (op : VOp) (w : ℕ) → (instruction l op w).op ≡ op

@@ -4,3 +4,4 @@ pub mod Reading
 pub mod Allowing
 pub mod Elements
 mod Examples
+mod AccessExamples

@@ -1,11 +1,11 @@
 -- What an instruction that writes elements leaves in the vector registers (vector extension 1.0, sections 3.4.3 and 5.3 to
 -- 5.4). It is said once for all such instructions: each says which elements it writes, and the value of each.
-use Rattle.std.specs.Prelude.{◌≡◌, ℕ, zero, suc, ◌/◌, Bool, true, false, cond, ◌&&◌, ◌||◌, eqb, List}
+use Rattle.std.specs.Prelude.{ℕ, zero, suc, ◌/◌, Bool, true, false, cond, ◌&&◌, ◌||◌, eqb, List}
 use Rattle.std.specs.Int.{from_bool}
 use lib.Dec.{ltb}
 use Rattle.bit_laws.specs.Numbers.{low}
 use Rattle.element_ops.specs.Elements.{element_of, mask_bit_of, with_elements, with_mask}
-use Rattle.element_ops.specs.Places.{Place, prestart, active, masked_off, tail, place_of, agnostic_value, is_active, is_agnostic}
+use Rattle.element_ops.specs.Places.{Place, active, place_of, agnostic_value, is_active, is_agnostic}
 use Rattle.vtype_cfg.specs.Settings.{vtype_of}
 use Rattle.vtype_cfg.specs.declared.configuration.Cfg.{Cfg}
 use Rattle.vtype_cfg.specs.declared.configuration.Policy.{Policy}

@@ -1,8 +1,9 @@
 -- What a guest program means.
 pub mod Vectors
 pub mod Elementwise
-pub mod Values
 pub mod Operations
+pub mod VectorAccesses
+pub mod LoadsAndStores
 pub mod Calls
 pub mod States
 pub mod Allowed

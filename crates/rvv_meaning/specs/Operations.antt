@@ -1,20 +1,197 @@
--- Operations whose elements are computed from elements at the same place: their operands and their values (vector extension
+-- Operations whose elements are computed from elements at the same place: their values and their operands (vector extension
 -- 1.0, sections 10.1, 11 and 12).
-use Rattle.std.specs.Prelude.{ℕ, ◌+◌, ◌-◌, ◌/◌, ◌^◌, Bool, true, false, cond, not, ◌&&◌, nat_lt, List, Option, None, Some}
-use Rattle.std.specs.Option.{option_map}
+use Rattle.std.specs.Prelude.{ℕ, ◌+◌, ◌-◌, ◌*◌, ◌/◌, ◌%◌, ◌^◌, Bool, true, false, cond, not, ◌&&◌, eqb, ℤ, pos, negsuc, ◌*ℤ◌, int_lt, int_le, int_div, int_rem, bit_and, bit_or, bit_xor, List, Option, None, Some}
+use Rattle.std.specs.Int.{from_bool, int_shr, int_div_euclid}
+use lib.Dec.{ltb, leb}
 use Rattle.bit_laws.specs.Numbers.{low}
-use Rattle.bit_laws.specs.Signed.{extended}
+use Rattle.bit_laws.specs.Signed.{signed, extended}
 use Rattle.element_ops.specs.Elements.{element_of, mask_bit_of}
-use Rattle.rvv_meaning.specs.Values.{vadd, vsub, vrsub, vadc, vsbc, vmadc, vmsbc, vand, vor, vxor, vmseq, vmsne, vmsltu, vmslt, vmsleu, vmsle, vmsgtu, vmsgt, vminu, vmin, vmaxu, vmax, vmerge, vmv}
 use Rattle.rvv_decode.specs.declared.instruction.VInstr.{VInstr}
 use Rattle.rvv_decode.specs.declared.instruction.VOp.{VOp}
-use Rattle.rvv_decode.specs.declared.instruction.VOp.TheVariants.{Opi}
+use Rattle.rvv_decode.specs.declared.instruction.VOp.TheVariants.{Opi, Opm}
 use Rattle.rvv_decode.specs.declared.instruction.Form.{Form}
 use Rattle.rvv_decode.specs.declared.instruction.Form.TheVariants.{V, X, I}
-use Rattle.rvv_decode.specs.declared.instruction.OpiOp.TheVariants.{Vadd, Vsub, Vrsub, Vadc, Vsbc, Vmadc, Vmsbc, Vand, Vor, Vxor, Vmseq, Vmsne, Vmsltu, Vmslt, Vmsleu, Vmsle, Vmsgtu, Vmsgt, Vminu, Vmin, Vmaxu, Vmax, Vmerge, VmvV}
+use Rattle.rvv_decode.specs.declared.instruction.OpiOp.TheVariants.{Vadd, Vsub, Vrsub, Vadc, Vsbc, Vmadc, Vmsbc, Vand, Vor, Vxor, Vsll, Vsrl, Vsra, Vmseq, Vmsne, Vmsltu, Vmslt, Vmsleu, Vmsle, Vmsgtu, Vmsgt, Vminu, Vmin, Vmaxu, Vmax, Vmerge, VmvV}
+use Rattle.rvv_decode.specs.declared.instruction.OpmOp.TheVariants.{Vdivu, Vdiv, Vremu, Vrem, Vmulhu, Vmul, Vmulhsu, Vmulh, Vmadd, Vnmsub, Vmacc, Vnmsac}
 use Rattle.vtype_cfg.specs.declared.configuration.Cfg.{Cfg}
 use Rattle.vtype_cfg.specs.Classes.{Row, class_of, row_of, width_at, count_at, is_mask_place}
 use Rattle.rvv_meaning.specs.Elementwise.{Elementwise, size_of}
+
+-- ---- values
+
+-- Each takes w, the width of an element in bits, and then the operands that it reads: a, the element of vs2, and b, the
+-- element of vs1, the scalar or the immediate, all below 2^w; where the destination is an operand, its element d as it was;
+-- and where the mask is one, the element's mask bit m. A value may be 2^w or more: what writes it takes it at w bits. That
+-- of a comparison or of a carry out is a bit of a mask.
+
+-- the sum (section 11.1)
+abbrev pub vadd : (w a b : ℕ) → ℕ
+vadd w a b = a + b
+
+-- the difference, modulo 2^w (section 11.1)
+abbrev pub vsub : (w a b : ℕ) → ℕ
+vsub w a b = a + (2 ^ w - b)
+
+-- the reverse difference, modulo 2^w (section 11.1)
+abbrev pub vrsub : (w a b : ℕ) → ℕ
+vrsub w a b = b + (2 ^ w - a)
+
+-- the sum with a carry in (section 11.4)
+abbrev pub vadc : (w a b : ℕ) → Bool → ℕ
+vadc w a b m = a + b + from_bool m
+
+-- the difference with a borrow in, modulo 2^w (section 11.4)
+abbrev pub vsbc : (w a b : ℕ) → Bool → ℕ
+vsbc w a b m = a + (2 ^ w - (b + from_bool m))
+
+-- the carry out of the sum (section 11.4)
+abbrev pub vmadc : (w a b : ℕ) → Bool → ℕ
+vmadc w a b m = from_bool (leb (2 ^ w) (a + b + from_bool m))
+
+-- the borrow out of the difference (section 11.4)
+abbrev pub vmsbc : (w a b : ℕ) → Bool → ℕ
+vmsbc w a b m = from_bool (ltb a (b + from_bool m))
+
+-- bitwise and (section 11.5)
+abbrev pub vand : (w a b : ℕ) → ℕ
+vand w a b = bit_and a b
+
+-- bitwise or (section 11.5)
+abbrev pub vor : (w a b : ℕ) → ℕ
+vor w a b = bit_or a b
+
+-- bitwise exclusive or (section 11.5)
+abbrev pub vxor : (w a b : ℕ) → ℕ
+vxor w a b = bit_xor a b
+
+-- what is left of a number with a sign modulo 2^w
+abbrev pub low_int : (w : ℕ) → ℤ → ℕ
+low_int w (pos n) = low w n
+low_int w (negsuc n) = 2 ^ w - 1 - low w n
+
+-- the logarithm of the width of an element, to the base 2
+abbrev pub log2 : (w : ℕ) → ℕ
+log2 w = cond (eqb w 8) 3 (cond (eqb w 16) 4 5)
+
+-- shifts by the low bits of b, as many as the logarithm of the width (section 11.6): to the left; to the right, with zeros
+-- coming in; and to the right, with the sign coming in
+abbrev pub vsll : (w a b : ℕ) → ℕ
+vsll w a b = a * 2 ^ low (log2 w) b
+
+abbrev pub vsrl : (w a b : ℕ) → ℕ
+vsrl w a b = a / 2 ^ low (log2 w) b
+
+abbrev pub vsra : (w a b : ℕ) → ℕ
+vsra w a b = low_int w (int_shr (signed w a) (low (log2 w) b))
+
+-- whether they are equal (section 11.8)
+abbrev pub vmseq : (w a b : ℕ) → ℕ
+vmseq w a b = from_bool (eqb a b)
+
+-- whether they differ (section 11.8)
+abbrev pub vmsne : (w a b : ℕ) → ℕ
+vmsne w a b = from_bool (not (eqb a b))
+
+-- whether a is less, without signs (section 11.8)
+abbrev pub vmsltu : (w a b : ℕ) → ℕ
+vmsltu w a b = from_bool (ltb a b)
+
+-- whether a is less, with signs (section 11.8)
+abbrev pub vmslt : (w a b : ℕ) → ℕ
+vmslt w a b = from_bool (int_lt (signed w a) (signed w b))
+
+-- whether a is less or equal, without signs (section 11.8)
+abbrev pub vmsleu : (w a b : ℕ) → ℕ
+vmsleu w a b = from_bool (leb a b)
+
+-- whether a is less or equal, with signs (section 11.8)
+abbrev pub vmsle : (w a b : ℕ) → ℕ
+vmsle w a b = from_bool (int_le (signed w a) (signed w b))
+
+-- whether a is greater, without signs (section 11.8)
+abbrev pub vmsgtu : (w a b : ℕ) → ℕ
+vmsgtu w a b = from_bool (ltb b a)
+
+-- whether a is greater, with signs (section 11.8)
+abbrev pub vmsgt : (w a b : ℕ) → ℕ
+vmsgt w a b = from_bool (int_lt (signed w b) (signed w a))
+
+-- the lesser, without signs (section 11.9)
+abbrev pub vminu : (w a b : ℕ) → ℕ
+vminu w a b = cond (ltb a b) a b
+
+-- the lesser, with signs (section 11.9)
+abbrev pub vmin : (w a b : ℕ) → ℕ
+vmin w a b = cond (int_lt (signed w a) (signed w b)) a b
+
+-- the greater, without signs (section 11.9)
+abbrev pub vmaxu : (w a b : ℕ) → ℕ
+vmaxu w a b = cond (ltb a b) b a
+
+-- the greater, with signs (section 11.9)
+abbrev pub vmax : (w a b : ℕ) → ℕ
+vmax w a b = cond (int_lt (signed w a) (signed w b)) b a
+
+-- the high half of a product with a sign, rounded down, modulo 2^w
+abbrev pub high_half : (w : ℕ) → ℤ → ℕ
+high_half w product = low_int w (int_div_euclid product (pos (2 ^ w)))
+
+-- the product (section 11.10)
+abbrev pub vmul : (w a b : ℕ) → ℕ
+vmul w a b = a * b
+
+-- its high half, without signs (section 11.10)
+abbrev pub vmulhu : (w a b : ℕ) → ℕ
+vmulhu w a b = a * b / 2 ^ w
+
+-- its high half, with signs (section 11.10)
+abbrev pub vmulh : (w a b : ℕ) → ℕ
+vmulh w a b = high_half w (signed w a *ℤ signed w b)
+
+-- its high half, of an a with a sign and a b without one (section 11.10)
+abbrev pub vmulhsu : (w a b : ℕ) → ℕ
+vmulhsu w a b = high_half w (signed w a *ℤ pos b)
+
+-- the quotient, without signs; by 0 it is all ones (section 11.11)
+abbrev pub vdivu : (w a b : ℕ) → ℕ
+vdivu w a b = cond (eqb b 0) (2 ^ w - 1) (a / b)
+
+-- the quotient with signs, rounded towards zero; by 0 it is all ones, and the least number by -1 is that number modulo 2^w
+-- (section 11.11)
+abbrev pub vdiv : (w a b : ℕ) → ℕ
+vdiv w a b = cond (eqb b 0) (2 ^ w - 1) (low_int w (int_div (signed w a) (signed w b)))
+
+-- the remainder, without signs; by 0 it is a (section 11.11)
+abbrev pub vremu : (w a b : ℕ) → ℕ
+vremu w a b = cond (eqb b 0) a (a % b)
+
+-- the remainder with signs, which has the sign of a; by 0 it is a, and that of the least number by -1 is 0 (section 11.11)
+abbrev pub vrem : (w a b : ℕ) → ℕ
+vrem w a b = cond (eqb b 0) a (low_int w (int_rem (signed w a) (signed w b)))
+
+-- the product of b and a added to d, and taken from d, modulo 2^w (section 11.13)
+abbrev pub vmacc : (w a b d : ℕ) → ℕ
+vmacc w a b d = b * a + d
+
+abbrev pub vnmsac : (w a b d : ℕ) → ℕ
+vnmsac w a b d = d + (2 ^ w - low w (b * a))
+
+-- the product of b and d added to a, and taken from a, modulo 2^w (section 11.13)
+abbrev pub vmadd : (w a b d : ℕ) → ℕ
+vmadd w a b d = b * d + a
+
+abbrev pub vnmsub : (w a b d : ℕ) → ℕ
+vnmsub w a b d = a + (2 ^ w - low w (b * d))
+
+-- one of the two by the mask bit (section 11.15)
+abbrev pub vmerge : (w a b : ℕ) → Bool → ℕ
+vmerge w a b m = cond m b a
+
+-- a copy (section 11.16)
+abbrev pub vmv : (w a b : ℕ) → ℕ
+vmv w a b = b
+
+-- ---- operations
 
 -- an immediate has this many bits
 abbrev pub immediate_bits : ℕ
@@ -37,7 +214,7 @@ pub record Operation : Type 0 where
   pub value : (w mode a b d : ℕ) → Bool → ℕ
   pub clips : (w mode a b d : ℕ) → Bool → Bool
 
--- an operation on two operands; and on these and the mask bit
+-- an operation on two operands, whose immediate has a sign
 abbrev pub of_two : ((w a b : ℕ) → ℕ) → Operation
 of_two value = record {
   signed_a = false;
@@ -49,8 +226,17 @@ of_two value = record {
   clips = λ w mode a b d m. false;
 }
 
+-- an operation on two operands, whose immediate has no sign
+abbrev pub unsigned_immediate : ((w a b : ℕ) → ℕ) → Operation
+unsigned_immediate value = record (of_two value) { signed_immediate = false }
+
+-- an operation on these and the mask bit
 abbrev pub of_two_and_mask : ((w a b : ℕ) → Bool → ℕ) → Operation
 of_two_and_mask value = record (of_two (λ w a b. 0)) { takes_mask = true; value = λ w mode a b d m. value w a b m }
+
+-- an operation on these and the element of the destination
+abbrev pub of_three : ((w a b d : ℕ) → ℕ) → Operation
+of_three value = record (of_two (λ w a b. 0)) { takes_old = true; value = λ w mode a b d m. value w a b d }
 
 -- the mask is an operand of the instruction
 abbrev pub reads_mask : VInstr → Operation → Bool
@@ -117,6 +303,9 @@ operation_for (Opi Vmsbc) = Some (of_two_and_mask vmsbc)
 operation_for (Opi Vand) = Some (of_two vand)
 operation_for (Opi Vor) = Some (of_two vor)
 operation_for (Opi Vxor) = Some (of_two vxor)
+operation_for (Opi Vsll) = Some (unsigned_immediate vsll)
+operation_for (Opi Vsrl) = Some (unsigned_immediate vsrl)
+operation_for (Opi Vsra) = Some (unsigned_immediate vsra)
 operation_for (Opi Vmseq) = Some (of_two vmseq)
 operation_for (Opi Vmsne) = Some (of_two vmsne)
 operation_for (Opi Vmsltu) = Some (of_two vmsltu)
@@ -131,4 +320,16 @@ operation_for (Opi Vmaxu) = Some (of_two vmaxu)
 operation_for (Opi Vmax) = Some (of_two vmax)
 operation_for (Opi Vmerge) = Some (of_two_and_mask vmerge)
 operation_for (Opi VmvV) = Some (of_two vmv)
+operation_for (Opm Vmul) = Some (of_two vmul)
+operation_for (Opm Vmulh) = Some (of_two vmulh)
+operation_for (Opm Vmulhu) = Some (of_two vmulhu)
+operation_for (Opm Vmulhsu) = Some (of_two vmulhsu)
+operation_for (Opm Vdivu) = Some (of_two vdivu)
+operation_for (Opm Vdiv) = Some (of_two vdiv)
+operation_for (Opm Vremu) = Some (of_two vremu)
+operation_for (Opm Vrem) = Some (of_two vrem)
+operation_for (Opm Vmacc) = Some (of_three vmacc)
+operation_for (Opm Vnmsac) = Some (of_three vnmsac)
+operation_for (Opm Vmadd) = Some (of_three vmadd)
+operation_for (Opm Vnmsub) = Some (of_three vnmsub)
 operation_for _ = None

@@ -1,5 +1,5 @@
 -- What a vector instruction leaves: one effect for all, configurations among them.
-use Rattle.std.specs.Prelude.{◌==◌, not, ◌||◌, ℕ, Bool, true, false, List, Option, None, Some, is_some, slice_index, if◌then◌else◌}
+use Rattle.std.specs.Prelude.{◌==◌, not, ◌||◌, ℕ, Bool, true, false, List, Option, is_some, slice_index, if◌then◌else◌}
 use Rattle.std.specs.Option.{option_map, option_map_or}
 use Rattle.guest_mem.specs.Pages.{Memory}
 use Rattle.rvv_decode.specs.declared.instruction.ConfigOp.{ConfigOp}

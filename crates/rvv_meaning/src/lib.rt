@@ -2,8 +2,10 @@
 //! definitions stand in specs/; the types here are those that both the definitions and the code name.
 #![tactic(auto)]
 
+mod accesses;
 mod readers;
 
+pub use accesses::{Access, Offset};
 use guest_mem::Trap;
 pub use readers::{el, mask_bit};
 use rv32_decode::Instr;

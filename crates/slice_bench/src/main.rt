@@ -1,8 +1,8 @@
 //! Times the operations of a chain, its networks and its tree. A line of the input names an operation, the columns of the
 //! chain (1 to 2,048) and how often it is made in a batch, as in `search 2048 1000`. It gets the operation, the columns, the
 //! bytes that the operation reads and writes at least, and the least processor time of five batches in nanoseconds for one
-//! operation, as `search 2048 bytes 16384 nanoseconds 500`. No time is told where it is made no time. A line of another form
-//! gets `form`.
+//! operation, as `search 2048 bytes 16384 nanoseconds 500`. No time is given where an operation is not made at all. A line
+//! of another form gets `form`.
 //!
 //! `search` has one key, `keys` three, `join` one key whose match joins the tags; `pass` goes up and down in turn; `window`
 //! and `bytes` mark elements of 32 and 8 bits, `masked` those of 8 bits under a mask, `mask` bits under a mask, `free` the
@@ -20,7 +20,7 @@ use std::io;
 use std::io::{BufRead, BufReader};
 use std::time::CpuClock;
 
-// Batches of which the least is told.
+// Batches, of which the least time is given.
 const BATCHES: u32 = 5;
 
 fn main(rt: HostRuntime) -> io::Result<()> {

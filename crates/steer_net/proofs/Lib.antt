@@ -6,3 +6,7 @@ pub mod Spans
 pub mod LaneRows
 pub mod Packed
 pub mod SubarrayRows
+pub mod RunBits
+pub mod Halves
+pub mod SourceBits
+pub mod Rewritten

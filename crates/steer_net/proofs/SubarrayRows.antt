@@ -1,5 +1,5 @@
 -- A row that is packed subarray by subarray.
-use Rattle.std.proofs.Common.{◌≡◌, ℕ, ◌+◌, ◌-◌, ◌*◌, ◌/◌, ◌%◌, ◌^◌, ◌<◌, ◌≤◌, Bool, true, false, cond, not, ◌&&◌, eqb, leb, ltb, List, ◌++◌, length, get_or, set, drop, replicate, refl, ap, sym, ◌∙◌, arith, ⊎_elim}
+use Rattle.std.proofs.Common.{◌≡◌, ℕ, ◌+◌, ◌-◌, ◌*◌, ◌/◌, ◌%◌, ◌<◌, ◌≤◌, Bool, true, false, cond, not, ◌&&◌, eqb, leb, ltb, List, ◌++◌, length, drop, replicate, refl, ap, sym, ◌∙◌, arith, ⊎_elim}
 use Rattle.std.proofs.lemmas.Bool.{cases_lt, cases_eq, and_parts, ltb-true, le-leb, lt-leb, lt-ltb, le-ltb, eq-eqb, ne_eqb}
 use Rattle.std.proofs.lemmas.Nat.{div-mul-add, mod-mul-add}
 use Rattle.std.proofs.Math.Nat.{mul-le-mul_left}
@@ -55,7 +55,7 @@ pub record Replaced (what old : ℕ → Bool) (i : ℕ) (words : List ℕ) : Typ
   pub todo : (c : ℕ) → i ≤ c → word_bit words c ≡ old c
 
 -- the column of a number of a row
-column : (s : Slices) (row sub c : ℕ) → sub < 32 → bit_in s row (c * 32 + sub) ≡ s.bit sub row c
+pub column : (s : Slices) (row sub c : ℕ) → sub < 32 → bit_in s row (c * 32 + sub) ≡ s.bit sub row c
 column s row sub c h = ap (λ k. s.bit k row ((c * 32 + sub) / 32)) (mod-mul-add c 32 sub h) ∙ ap (λ k. s.bit sub row k) (div-mul-add c 32 sub h)
 
 -- a column that no element names keeps its bit

@@ -4,9 +4,8 @@ ghost use Rattle.std.specs.Int.{bit_at};
 ghost use Rattle.steer_net.specs.Network.{numbered, bit_in, is_width, MaskReaches};
 ghost use Rattle.steer_net.specs.Rows.{mask_bit, is_one, partly, is_between};
 
-use crate::sizes::{MASK, MAX_COLUMNS, SUBARRAYS};
-use crate::windows::Ones;
-use bit_rows::Planes;
+use crate::windows::{MASK, Ones};
+use bit_rows::{MAX_COLUMNS, Planes, SUBARRAYS};
 
 // Writes a row that may be the mask itself, by a copy of the mask as it stands before, which is made only
 // where it counts.

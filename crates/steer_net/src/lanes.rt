@@ -7,9 +7,8 @@ ghost use Rattle.steer_net.specs.Network.{numbered, bit_in, is_width, MaskReache
 ghost use Rattle.steer_net.specs.Rows.{is_one, partly, spans, HoldsMask, mask_within};
 
 use crate::ranges::lane_words;
-use crate::sizes::{MASK, MAX_WORDS, SUBARRAYS, WORD_BITS};
-use crate::windows::Ones;
-use bit_rows::Planes;
+use crate::windows::{MASK, Ones};
+use bit_rows::{MAX_WORDS, Planes, SUBARRAYS, WORD_BITS};
 
 // Writes a row that is not the mask.
 pub(crate) fn write_lanes<P: Planes>(p: &mut P, row: u8, width: u8, first: u32, ones: Ones)

@@ -3,10 +3,16 @@
 
 mod columns;
 mod lanes;
+mod moves;
 mod packing;
 mod ranges;
-mod sizes;
+mod reach;
+mod rewriting;
+mod runs;
+mod sources;
 mod windows;
 
+pub use moves::{below, index, narrow, pick, slide, spread};
 pub use packing::pack_mask;
+pub use reach::Reach;
 pub use windows::{free, window};

@@ -5,8 +5,7 @@ ghost use Rattle.steer_net.specs.Rows.{mask_bit, packed_bit, packed_column};
 
 use crate::columns::{read_row, write_words};
 use crate::lanes::write_lane;
-use crate::sizes::{MAX_COLUMNS, MAX_WORDS, SUBARRAYS, WORD_BITS};
-use bit_rows::Planes;
+use bit_rows::{MAX_COLUMNS, MAX_WORDS, Planes, SUBARRAYS, WORD_BITS};
 
 /// Packs a bit of each element into bits of a row: each element of `width` bits, which is 1, 8, 16
 /// or 32, whose highest bit in the row `under` is set writes its highest bit in the row `from` into
@@ -131,7 +130,7 @@ fn is_named<P: Planes>(p: &P, under: u8, width: u8, first: u32, number: u32) -> 
 }
 
 // Writes a bit of a row of a subarray that is held as words.
-fn put_column(words: &mut [u64; MAX_WORDS], col: u32, bit: bool)
+pub(crate) fn put_column(words: &mut [u64; MAX_WORDS], col: u32, bit: bool)
     requires { col < 2048 }
     ensures { (c : ℕ) → word_bit words.new c ≡ cond (eqb c col) bit (word_bit words.old c) }
 {
@@ -141,7 +140,7 @@ fn put_column(words: &mut [u64; MAX_WORDS], col: u32, bit: bool)
 }
 
 // A row of a subarray as words.
-fn row_words<P: Planes>(p: &P, sub: u8, row: u8) -> [u64; MAX_WORDS]
+pub(crate) fn row_words<P: Planes>(p: &P, sub: u8, row: u8) -> [u64; MAX_WORDS]
     requires sub { sub < 32 }
     requires row { row < 64 }
     ensures { (c : ℕ) → word_bit result c ≡ (ltb c (P.slices p.now).columns && (P.slices p.now).bit sub row c) }

@@ -4,8 +4,8 @@ ghost use Rattle.std.specs.Int.{bit_at};
 ghost use Rattle.bit_rows.specs.Words.{word_bit};
 ghost use Rattle.steer_net.specs.Rows.{is_one};
 
-use crate::sizes::{MAX_WORDS, WORD_BITS};
 use crate::windows::Ones;
+use bit_rows::{MAX_WORDS, WORD_BITS};
 
 // The bits of the columns whose element becomes ones: the first column's element has the number
 // `number`, and each further one a number that is higher by `step`. The mask has a bit for each column.
@@ -33,7 +33,7 @@ pub(crate) fn lane_words(
 }
 
 // How many of the numbers `number`, `number + step`, `number + 2 step` and so on are below `bound`.
-fn count_below(number: u64, step: u32, bound: u32) -> u32
+pub(crate) fn count_below(number: u64, step: u32, bound: u32) -> u32
     requires { 1 ≤ step }
     ensures { (c : ℕ) → ltb c result ≡ ltb (number + c * step) bound }
 {

@@ -4,8 +4,10 @@ ghost use Rattle.steer_net.specs.Rows.{is_one};
 
 use crate::columns::write_over_mask;
 use crate::lanes::write_lanes;
-use crate::sizes::MASK;
 use bit_rows::Planes;
+
+// The register that is the mask.
+pub(crate) const MASK: u8 = 0;
 
 // Which elements of a row become ones: `on` and `off` say it of an element from `from` on and
 // below `to`, where its bit of the mask is 1 and where it is 0, and `tail` says it of an element
@@ -83,7 +85,7 @@ pub fn free<P: Planes>(
 }
 
 // Writes the row by the mask as register 0 stands before.
-fn write_ones<P: Planes>(p: &mut P, row: u8, width: u8, first: u32, ones: Ones)
+pub(crate) fn write_ones<P: Planes>(p: &mut P, row: u8, width: u8, first: u32, ones: Ones)
     requires row { row < 64 }
     requires width { is_width width ≡ true }
     requires mask { (ones.on ≡ ones.off → ⊥)

@@ -1,15 +1,20 @@
 -- The lists of each recipe compute the value, or tell the truth, of its operation.
-use Rattle.std.proofs.Common.{◌≡◌, ℕ, ◌+◌, ◌-◌, ◌*◌, ◌^◌, ◌<◌, ◌≤◌, Bool, true, false, ◌&&◌, not, cond, leb, ltb, Option, Some, None, refl, sym, ◌∙◌, ap, arith}
-use Rattle.std.specs.Prelude.{is_some}
-use Rattle.rvv_decode.specs.declared.instruction.OpiOp.TheVariants.{Vadd, Vsub, Vrsub, Vadc, Vsbc, Vmadc, Vmsbc, Vand, Vor, Vxor, Vmseq, Vmsne, Vmsltu, Vmslt, Vmsleu, Vmsle, Vmsgtu, Vmsgt, Vminu, Vmin, Vmaxu, Vmax, Vmerge, VmvV}
+use Rattle.std.proofs.Common.{◌≡◌, ℕ, ◌+◌, ◌-◌, ◌*◌, ◌^◌, eqb, Bool, true, false, cond, leb, ltb, Option, Some, None, refl, ap, arith, mul_comm}
+use Rattle.std.specs.Prelude.{is_some, ℤ, pos, negsuc, ◌*ℤ◌, int_div, int_rem}
+use Rattle.std.specs.Int.{int_shr, int_div_euclid}
+use Rattle.rvv_decode.specs.declared.instruction.OpiOp.TheVariants.{Vadd, Vsub, Vrsub, Vadc, Vsbc, Vmadc, Vmsbc, Vand, Vor, Vxor, Vsll, Vsrl, Vsra, Vmseq, Vmsne, Vmsltu, Vmslt, Vmsleu, Vmsle, Vmsgtu, Vmsgt, Vminu, Vmin, Vmaxu, Vmax, Vmerge, VmvV}
+use Rattle.rvv_decode.specs.declared.instruction.OpmOp.TheVariants.{Vdivu, Vdiv, Vremu, Vrem, Vmulhu, Vmul, Vmulhsu, Vmulh, Vmadd, Vnmsub, Vmacc, Vnmsac}
 use Rattle.rvv_decode.specs.declared.instruction.ConfigOp.{ConfigOp}
 use Rattle.rvv_decode.specs.declared.instruction.VOp.{VOp}
 use Rattle.rvv_decode.specs.declared.instruction.VOp.TheVariants.{Opi, Opm, Config, Memory}
-use Rattle.vtype_cfg.specs.Classes.{Class, class_of, opi_class, compare}
-use Rattle.rvv_meaning.specs.Operations.{Operation, operation_for}
+use Rattle.vtype_cfg.specs.Classes.{Class, class_of, opi_class, opm_class, compare}
+use Rattle.bit_laws.specs.Numbers.{low}
+use Rattle.bit_laws.specs.Signed.{signed}
+use Rattle.gen_shift.specs.Kinds as shifts
+use Rattle.rvv_meaning.specs.Operations.{low_int, log2, Operation, operation_for}
 use Rattle.rvv_meaning.specs.Vectors.{is_built}
 use Rattle.frame_meaning.specs.declared.Order.{Order}
-use Rattle.frame_meaning.specs.declared.Order.TheVariants.{Straight, Reversed, Second}
+use Rattle.frame_meaning.specs.declared.Order.TheVariants.{Straight, Reversed, Second, Exchanged}
 use Rattle.frame_meaning.specs.Laws.{IgnoresFirst}
 use Rattle.frame_meaning.specs.Masks.{IsTruth}
 use Rattle.frame_meaning.specs.Shapes.{class_in}
@@ -64,6 +69,7 @@ Ignores _ o = Unit {0}
 abbrev pub value_by : Order → Operation → (w mode a b d : ℕ) → Bool → ℕ
 value_by Straight o w mode a b d m = o.value w mode a b (cond o.takes_old d 0) m
 value_by Reversed o w mode a b d m = o.value w mode b a (cond o.takes_old d 0) m
+value_by Exchanged o w mode a b d m = o.value w mode d b (cond o.takes_old a 0) m
 value_by Second o w mode a b d m = o.value w mode a b (cond o.takes_old d 0) m
 
 -- the list with the mask computes the value, or tells the truth
@@ -90,8 +96,20 @@ FitsIf op (Some r) (Some o) = Fits op r o
 FitsIf op (Some r) None = ⊥
 FitsIf op None (Some o) = ⊥
 
+-- what is left of a number with a sign, in the words of the list and of the meaning
+same-low : (w : ℕ) (z : ℤ) → shifts.low_int w z ≡ low_int w z
+same-low w (pos n) = refl
+same-low w (negsuc n) = refl
+
+-- a product added to a third operand, and taken from it, in the order of the list and of the meaning
+added : (a b d : ℕ) → a * b + d ≡ b * a + d
+added a b d = ap (λ (n : ℕ). n + d) (mul_comm a b)
+
+taken : (w a b d : ℕ) → d + (2 ^ w - low w (a * b)) ≡ d + (2 ^ w - low w (b * a))
+taken w a b d = ap (λ (n : ℕ). d + (2 ^ w - low w n)) (mul_comm a b)
+
 fits : (op : VOp) → FitsIf op (recipe_for op) (operation_for op)
-unfolding recipe_for operation_for opi_class
+unfolding recipe_for operation_for opi_class opm_class
 fits (Opi Vadd) = record { same = refl; ignores = tt; means = λ w mode a b d m. refl; unmasked = λ w a b d m. refl }
 fits (Opi Vsub) = record { same = refl; ignores = tt; means = λ w mode a b d m. refl; unmasked = λ w a b d m. refl }
 fits (Opi Vrsub) = record { same = refl; ignores = tt; means = λ w mode a b d m. refl; unmasked = λ w a b d m. refl }
@@ -102,6 +120,9 @@ fits (Opi Vmsbc) = record { same = refl; ignores = tt; means = λ w mode a b d m
 fits (Opi Vand) = record { same = refl; ignores = tt; means = λ w mode a b d m. refl; unmasked = λ w a b d m. refl }
 fits (Opi Vor) = record { same = refl; ignores = tt; means = λ w mode a b d m. refl; unmasked = λ w a b d m. refl }
 fits (Opi Vxor) = record { same = refl; ignores = tt; means = λ w mode a b d m. refl; unmasked = λ w a b d m. refl }
+fits (Opi Vsll) = record { same = refl; ignores = tt; means = λ w mode a b d m. refl; unmasked = λ w a b d m. refl }
+fits (Opi Vsrl) = record { same = refl; ignores = tt; means = λ w mode a b d m. refl; unmasked = λ w a b d m. refl }
+fits (Opi Vsra) = record { same = refl; ignores = tt; means = λ w mode a b d m. same-low w (int_shr (signed w a) (low (log2 w) b)); unmasked = λ w a b d m. refl }
 fits (Opi Vmseq) = record { same = refl; ignores = tt; means = λ w mode a b d m. refl; unmasked = λ w a b m. refl }
 fits (Opi Vmsne) = record { same = refl; ignores = tt; means = λ w mode a b d m. refl; unmasked = λ w a b m. refl }
 fits (Opi Vmsltu) = record { same = refl; ignores = tt; means = λ w mode a b d m. refl; unmasked = λ w a b m. refl }
@@ -117,6 +138,18 @@ fits (Opi Vmax) = record { same = refl; ignores = tt; means = λ w mode a b d m.
 fits (Opi Vmerge) = record { same = refl; ignores = tt; means = λ w mode a b d m. refl; unmasked = λ w a b d m. refl }
 fits (Opi VmvV) = record { same = refl; ignores = λ w mode x y b d m. refl; means = λ w mode a b d m. refl; unmasked = λ w a b d m. refl }
 fits (Opi _) = tt
+fits (Opm Vmul) = record { same = refl; ignores = tt; means = λ w mode a b d m. refl; unmasked = λ w a b d m. refl }
+fits (Opm Vmulh) = record { same = refl; ignores = tt; means = λ w mode a b d m. same-low w (int_div_euclid (signed w a *ℤ signed w b) (pos (2 ^ w))); unmasked = λ w a b d m. refl }
+fits (Opm Vmulhu) = record { same = refl; ignores = tt; means = λ w mode a b d m. refl; unmasked = λ w a b d m. refl }
+fits (Opm Vmulhsu) = record { same = refl; ignores = tt; means = λ w mode a b d m. same-low w (int_div_euclid (signed w a *ℤ pos b) (pos (2 ^ w))); unmasked = λ w a b d m. refl }
+fits (Opm Vdivu) = record { same = refl; ignores = tt; means = λ w mode a b d m. refl; unmasked = λ w a b d m. refl }
+fits (Opm Vdiv) = record { same = refl; ignores = tt; means = λ w mode a b d m. ap (cond (eqb b 0) (2 ^ w - 1)) (same-low w (int_div (signed w a) (signed w b))); unmasked = λ w a b d m. refl }
+fits (Opm Vremu) = record { same = refl; ignores = tt; means = λ w mode a b d m. refl; unmasked = λ w a b d m. refl }
+fits (Opm Vrem) = record { same = refl; ignores = tt; means = λ w mode a b d m. ap (cond (eqb b 0) a) (same-low w (int_rem (signed w a) (signed w b))); unmasked = λ w a b d m. refl }
+fits (Opm Vmacc) = record { same = refl; ignores = tt; means = λ w mode a b d m. added a b d; unmasked = λ w a b d m. refl }
+fits (Opm Vnmsac) = record { same = refl; ignores = tt; means = λ w mode a b d m. taken w a b d; unmasked = λ w a b d m. refl }
+fits (Opm Vmadd) = record { same = refl; ignores = tt; means = λ w mode a b d m. added a b d; unmasked = λ w a b d m. refl }
+fits (Opm Vnmsub) = record { same = refl; ignores = tt; means = λ w mode a b d m. taken w a b d; unmasked = λ w a b d m. refl }
 fits (Opm _) = tt
 fits (Config _) = tt
 fits (Memory _) = tt

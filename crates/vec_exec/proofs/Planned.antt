@@ -1,13 +1,12 @@
 -- What a plan writes is the program in the frame; what legality says of its rows; and what the program does and costs.
-use Rattle.std.proofs.Common.{◌≡◌, inl, inr, ℕ, zero, suc, ◌+◌, ◌*◌, ◌/◌, ◌<◌, ◌≤◌, Bool, true, false, ◌&&◌, not, cond, eqb, List, ◌++◌, Option, Some, None, refl, sym, ◌∙◌, ap, subst, arith, ⊎_elim}
-use Rattle.std.specs.Prelude.{IsTrue, is_some}
+use Rattle.std.proofs.Common.{◌≡◌, inl, inr, ℕ, zero, suc, ◌+◌, ◌*◌, ◌/◌, ◌<◌, ◌≤◌, Bool, true, false, ◌&&◌, not, cond, eqb, List, ◌++◌, Some, refl, sym, ◌∙◌, ap, arith, ⊎_elim}
+use Rattle.std.specs.Prelude.{IsTrue}
 use Rattle.std.proofs.lemmas.Bool.{and_parts, leb-true, cases_Bool}
 use Rattle.bit_rows.specs.Slices.{Slices, blank}
 use Rattle.cam_chain.specs.Views.{registers_of}
 use Rattle.micro_ir.specs.declared.op.MicroOp.{MicroOp}
-use Rattle.micro_ir.specs.Kinds.{Realises, Tells}
-use Rattle.micro_ir.specs.Measures.{Measured}
-use Rattle.micro_ir.specs.Replay.{replay, tally, clips, AllInRange}
+use Rattle.micro_ir.specs.Kinds.{Realises}
+use Rattle.micro_ir.specs.Replay.{replay, tally, AllInRange, clips, all_keep_control}
 use Rattle.micro_ir.specs.WorkRows.{IsOperandRow}
 use Rattle.micro_ir.proofs.Lists.{clips-none}
 use Rattle.micro_ir.proofs.Valued.{realises-same, tells-same}
@@ -16,14 +15,15 @@ use Rattle.rvv_decode.specs.declared.instruction.Form.TheVariants.{V, X, I}
 use Rattle.rvv_decode.specs.declared.instruction.VInstr.{VInstr}
 use Rattle.vtype_cfg.specs.declared.configuration.Cfg.{Cfg}
 use Rattle.vtype_cfg.specs.Settings.{is_legal_vlen, is_vill_or_supported, is_valid, vlmax}
-use Rattle.vtype_cfg.specs.Classes.{Class, class_of, compare}
+use Rattle.vtype_cfg.specs.Classes.{class_of, compare}
 use Rattle.vtype_cfg.specs.Legality.{is_legal}
 use Rattle.vtype_cfg.proofs.Lengths.{vlen_from, vlen_words}
+use Rattle.gen_div.specs.Rows.{IsSignedRow}
+use Rattle.gen_div.specs.declared.kinds.Division.TheVariants.{Divu, Remu, Div, Rem}
 use Rattle.legal_groups.specs.Facts.{IsElementWidth, group_count, SameOrApart, SewGroups, MaskGroups}
 use Rattle.legal_groups.proofs.Groups.{legal_plain_law, legal_move_law, legal_compare_law}
 use Rattle.rvv_meaning.specs.Elementwise.{Elementwise, registers_after, clips_below, clips as clips_elements}
 use Rattle.rvv_meaning.specs.Operations.{Operation, operation_for, on_elements, elements_at, reads_mask}
-use Rattle.rvv_meaning.specs.Vectors.{left_of}
 use Rattle.frame_laws.specs.Classes.Operands.{row_of}
 use Rattle.frame_laws.specs.Classes.Plain.{AllCompute}
 use Rattle.frame_laws.specs.Classes.Compared.{AllTell}
@@ -31,7 +31,7 @@ use Rattle.frame_laws.specs.Programs.{program, first_registers, one_register}
 use Rattle.frame_laws.specs.Shapes.{Shape, usual_bounds}
 use Rattle.frame_laws.specs.Masks.Programs as masks
 use Rattle.frame_meaning.specs.declared.Order.{Order}
-use Rattle.frame_meaning.specs.declared.Order.TheVariants.{Straight, Reversed, Second}
+use Rattle.frame_meaning.specs.declared.Order.TheVariants.{Straight, Reversed, Second, Exchanged}
 use Rattle.frame_meaning.specs.Shapes.{source_in_vs1, class_in, operands_in, value_in, elements_in, shape_in, program_in}
 use Rattle.frame_meaning.specs.Laws.{Runs, IgnoresFirst}
 use Rattle.frame_meaning.specs.Costs.{ElementsMeasured}
@@ -39,10 +39,12 @@ use Rattle.frame_meaning.specs.Masks.{IsTruth, truth_in, compare_operands, compa
 use Rattle.frame_meaning.proofs.Instructions.{elements_meaning_law, elements_cost_law}
 use Rattle.frame_meaning.proofs.Masks.{compare_meaning_law, compare_cost_law}
 use Rattle.vec_exec.specs.declared.recipes.Listed.{Listed}
+use Rattle.vec_exec.specs.declared.recipes.Listed.TheVariants.{Bits, Sums, Truths, Choices, Shifts, Products, Divisions}
 use Rattle.vec_exec.specs.declared.recipes.Recipe.{Recipe}
-use Rattle.vec_exec.specs.Recipes.{recipe_for, makes_bits, takes_row, value_of, truth_of, list_of, counts_of, length_of, Computes}
-use Rattle.vec_exec.specs.Programs.{reads, masked, list_for, kind_list, truth_list, element_program, mask_program, register_list, registers_list, mask_register_list, mask_registers_list, mask_fill_list, scalar_list, IsPlaced, IsMaskPlaced, IsMade, IsMaskMade, RealisesInstruction, prog, program_by, cost, cost_by}
-use Rattle.vec_exec.proofs.Fits.{Traits, Ignores, value_by, Means, Unmasked, Fits, never}
+use Rattle.vec_exec.specs.Recipes.{recipe_for, makes_bits, takes_row, value_of, truth_of, list_of, counts_of, length_of, Computes, HasDivisionRows}
+use Rattle.vec_exec.specs.Programs.{reads, list_for, kind_list, truth_list, element_program, mask_program, register_list, registers_list, mask_register_list, mask_registers_list, mask_fill_list, scalar_list, IsPlaced, IsMaskPlaced, IsMade, IsMaskMade, RealisesInstruction, prog, program_by, cost, cost_by, masked}
+use Rattle.vec_exec.proofs.Fits.{Traits, Ignores, value_by, Means, Unmasked, Fits}
+use Rattle.vec_exec.proofs.Keeping.{elements-keep, mask-keep}
 
 -- ---- what a valid configuration has
 
@@ -70,30 +72,59 @@ no-bit w (inr (inr is)) = rw is refl
 abbrev Facts : Order → VInstr → Cfg → Type 0
 Facts Straight i c = SewGroups i c.vtype × SameOrApart (group_count c.vtype) i.vd i.vs2
 Facts Reversed i c = SewGroups i c.vtype × SameOrApart (group_count c.vtype) i.vd i.vs2
+Facts Exchanged i c = SewGroups i c.vtype × SameOrApart (group_count c.vtype) i.vd i.vs2
 Facts Second i c = SewGroups i c.vtype
 
 groups-in : (order : Order) (i : VInstr) (c : Cfg) → Facts order i c → SewGroups i c.vtype
 groups-in Straight i c f = f.0
 groups-in Reversed i c f = f.0
+groups-in Exchanged i c f = f.0
 groups-in Second i c f = f
 
-second-row : (form : Form) (vs1 n g : ℕ) → g < n → (form ≡ V → vs1 + n ≤ 32) → IsOperandRow (row_of (source_in_vs1 form vs1) g)
+second-row : (form : Form) (vs1 n g : ℕ) → g < n → (form ≡ V → vs1 + n ≤ 32) → IsSignedRow (row_of (source_in_vs1 form vs1) g)
 second-row V vs1 n g inside room = let r : vs1 + n ≤ 32 = room refl in inl (omega arith)
-second-row X vs1 n g inside room = inr (inr (inl refl))
-second-row I vs1 n g inside room = inr (inr (inl refl))
+second-row X vs1 n g inside room = inr refl
+second-row I vs1 n g inside room = inr refl
+
+operand-row : (row : ℕ) → IsSignedRow row → IsOperandRow row
+operand-row row (inl register) = inl register
+operand-row row (inr scalar) = inr (inr (inl scalar))
+
+-- rows that a division may take, with signs or without
+division-rows : (list : Listed) (a b : ℕ) → IsSignedRow a → IsSignedRow b → HasDivisionRows list a b
+division-rows (Divisions Divu) a b first second = (operand-row a first, operand-row b second)
+division-rows (Divisions Remu) a b first second = (operand-row a first, operand-row b second)
+division-rows (Divisions Div) a b first second = (first, second)
+division-rows (Divisions Rem) a b first second = (first, second)
+division-rows (Bits kind) a b first second = tt
+division-rows (Sums kind) a b first second = tt
+division-rows (Truths kind) a b first second = tt
+division-rows (Choices kind) a b first second = tt
+division-rows (Shifts kind) a b first second = tt
+division-rows (Products kind) a b first second = tt
 
 -- the rows of the operands for register g
-rows-in : (order : Order) (i : VInstr) (c : Cfg) → Facts order i c → (g : ℕ) → g < group_count c.vtype
-    → IsOperandRow (row_of (operands_in order i).a g) × IsOperandRow (row_of (operands_in order i).b g)
+record Rows (order : Order) (i : VInstr) (g : ℕ) : Type 0 where
+  a : IsSignedRow (row_of (operands_in order i).a g)
+  b : IsSignedRow (row_of (operands_in order i).b g)
+  addend : IsOperandRow (row_of (operands_in order i).addend g)
+
+rows-in : (order : Order) (i : VInstr) (c : Cfg) → Facts order i c → (g : ℕ) → g < group_count c.vtype → Rows order i g
 rows-in Straight i c f g inside =
     let r : i.vs2 + group_count c.vtype ≤ 32 = f.1.0 in
-    (inl (omega arith), second-row i.form i.vs1 (group_count c.vtype) g inside (λ is. (f.0.vs1 is).0))
+    let d : i.vd + group_count c.vtype ≤ 32 = f.0.room in
+    record { a = inl (omega arith); b = second-row i.form i.vs1 (group_count c.vtype) g inside (λ is. (f.0.vs1 is).0); addend = inl (omega arith) }
 rows-in Reversed i c f g inside =
     let r : i.vs2 + group_count c.vtype ≤ 32 = f.1.0 in
-    (second-row i.form i.vs1 (group_count c.vtype) g inside (λ is. (f.0.vs1 is).0), inl (omega arith))
+    let d : i.vd + group_count c.vtype ≤ 32 = f.0.room in
+    record { a = second-row i.form i.vs1 (group_count c.vtype) g inside (λ is. (f.0.vs1 is).0); b = inl (omega arith); addend = inl (omega arith) }
+rows-in Exchanged i c f g inside =
+    let r : i.vs2 + group_count c.vtype ≤ 32 = f.1.0 in
+    let d : i.vd + group_count c.vtype ≤ 32 = f.0.room in
+    record { a = inl (omega arith); b = second-row i.form i.vs1 (group_count c.vtype) g inside (λ is. (f.0.vs1 is).0); addend = inl (omega arith) }
 rows-in Second i c f g inside =
     let r : i.vd + group_count c.vtype ≤ 32 = f.room in
-    (inl (omega arith), second-row i.form i.vs1 (group_count c.vtype) g inside (λ is. (f.vs1 is).0))
+    record { a = inl (omega arith); b = second-row i.form i.vs1 (group_count c.vtype) g inside (λ is. (f.vs1 is).0); addend = inl (omega arith) }
 
 -- what a plan needs of an instruction
 pub record Plans (r : Recipe) (i : VInstr) (c : Cfg) : Type 0 where
@@ -116,13 +147,14 @@ ignoring _ o h is = cc
 -- a list that computes the operation's value as it takes the operands
 lists-compute : (order : Order) (o : Operation) (i : VInstr) (c : Cfg) (list : Listed) (g : ℕ) → makes_bits list ≡ false → takes_row list ≡ reads_mask i o
     → ((a b d : ℕ) (m : Bool) → value_of list c.vtype.sew a b d m ≡ value_by order o c.vtype.sew c.vxrm a b d (reads_mask i o && m))
-    → Computes list c.vtype.sew (row_of (operands_in order i).a g) (row_of (operands_in order i).b g) (i.vd + g) (i.vd + g)
+    → Computes list c.vtype.sew (row_of (operands_in order i).a g) (row_of (operands_in order i).b g) (row_of (operands_in order i).addend g) (i.vd + g)
     → Realises c.vtype.sew (i.vd + g) (reads_mask i o)
     (λ n m. value_in order i c o (n (row_of (operands_in order i).a g)) (n (row_of (operands_in order i).b g)) (n (row_of (operands_in order i).addend g)) m)
-    (list_of list c.vtype.sew (row_of (operands_in order i).a g) (row_of (operands_in order i).b g) (i.vd + g) (i.vd + g))
+    (list_of list c.vtype.sew (row_of (operands_in order i).a g) (row_of (operands_in order i).b g) (row_of (operands_in order i).addend g) (i.vd + g))
 unfolding Computes
 lists-compute Straight o i c list g bits takes same h = realises-same _ _ _ _ _ _ (λ n m small. rw (same _ _ _ m) refl) (rw (bits, takes) at h)
 lists-compute Reversed o i c list g bits takes same h = realises-same _ _ _ _ _ _ (λ n m small. rw (same _ _ _ m) refl) (rw (bits, takes) at h)
+lists-compute Exchanged o i c list g bits takes same h = realises-same _ _ _ _ _ _ (λ n m small. rw (same _ _ _ m) refl) (rw (bits, takes) at h)
 lists-compute Second o i c list g bits takes same h = realises-same _ _ _ _ _ _ (λ n m small. rw (same _ _ _ m) refl) (rw (bits, takes) at h)
 
 -- no element is clipped where the operation clips none
@@ -269,6 +301,7 @@ module _ (r : Recipe) (o : Operation) (i : VInstr) (c : Cfg) (x : ℕ) (f : Fits
   facts-in : (order : Order) → class_of i.op ≡ class_in order → Facts order i c
   facts-in Straight class = legal_plain_law i c.vtype c.vstart (valid-setting c valid) legal class
   facts-in Reversed class = legal_plain_law i c.vtype c.vstart (valid-setting c valid) legal class
+  facts-in Exchanged class = legal_plain_law i c.vtype c.vstart (valid-setting c valid) legal class
   facts-in Second class = legal_move_law i c.vtype c.vstart (valid-setting c valid) legal class
 
   least : 32 ≤ c.vlen
@@ -289,8 +322,10 @@ module _ (r : Recipe) (o : Operation) (i : VInstr) (c : Cfg) (x : ℕ) (f : Fits
         few = groups.few;
         placed = λ g inside. let rows = rows-in r.order i c facts g inside in record {
           vd = let room : i.vd + group_count c.vtype ≤ 32 = groups.room in omega arith;
-          a = rows.0;
-          b = rows.1;
+          a = operand-row _ rows.a;
+          b = operand-row _ rows.b;
+          addend = rows.addend;
+          division = division-rows (list_for r i) _ _ rows.a rows.b;
         };
       }
 
@@ -301,11 +336,16 @@ module _ (r : Recipe) (o : Operation) (i : VInstr) (c : Cfg) (x : ℕ) (f : Fits
         sew = groups.sew;
         few = groups.few;
         vd = groups.room;
-        placed = λ g inside. record {
-          vd = groups.room;
-          a = let room : i.vs2 + group_count c.vtype ≤ 32 = groups.vs2.0 in inl (omega arith);
-          b = second-row i.form i.vs1 (group_count c.vtype) g inside (λ is. (groups.vs1 is).0);
-        };
+        placed = λ g inside.
+            let room : i.vs2 + group_count c.vtype ≤ 32 = groups.vs2.0 in
+            let first : IsSignedRow (row_of (compare_operands i).a g) = inl (omega arith) in
+            let second = second-row i.form i.vs1 (group_count c.vtype) g inside (λ is. (groups.vs1 is).0) in
+            record {
+              vd = groups.room;
+              a = operand-row _ first;
+              b = operand-row _ second;
+              division = λ list. division-rows list _ _ first second;
+            };
       }
 
   -- SEW is one of the widths
@@ -346,11 +386,11 @@ module _ (r : Recipe) (o : Operation) (i : VInstr) (c : Cfg) (x : ℕ) (f : Fits
   -- ---- together
 
   -- what a list leaves that leaves the registers of the meaning
-  realised : (ops : List MicroOp) → operation_for i.op ≡ Some o
+  realised : (ops : List MicroOp) → all_keep_control ops ≡ true → operation_for i.op ≡ Some o
       → ((s : Slices) → c.vlen ≡ 32 * s.columns → registers_of (replay ops s) ≡ registers_after c (on_elements i c x o) (registers_of s)) → RealisesInstruction i c x ops
   unfolding RealisesInstruction
-  realised ops is all s cleared long =
-      rw is (all s long, clips-none ops s ∙ sym (unclipped r o i c x f (registers_of s)))
+  realised ops keep is all s cleared long =
+      rw is (all s long, clips-none ops s keep ∙ sym (unclipped r o i c x f (registers_of s)))
 
   abbrev made_all : Type 0
   made_all = (g : ℕ) → g < group_count c.vtype → IsMade r i c g
@@ -367,7 +407,7 @@ module _ (r : Recipe) (o : Operation) (i : VInstr) (c : Cfg) (x : ℕ) (f : Fits
   elements-fine is numbers made small =
       let m = elements-measured numbers made small in
       record {
-        realises = rw (elements-program numbers) (realised (element_program r i c x) is (elements-realised numbers made small));
+        realises = rw (elements-program numbers) (realised (element_program r i c x) (elements-keep r i c x) is (elements-realised numbers made small));
         cost = rw (elements-program numbers) (m.cost ∙ sym (rw (bits-for r o i c x f ∙ numbers) refl));
         range = rw (elements-program numbers) m.range;
       }
@@ -381,7 +421,7 @@ module _ (r : Recipe) (o : Operation) (i : VInstr) (c : Cfg) (x : ℕ) (f : Fits
   bits-fine is bits made small =
       let m = bits-measured bits made small in
       record {
-        realises = rw (bits-program bits) (realised (mask_program r i c x) is (bits-realised bits made small));
+        realises = rw (bits-program bits) (realised (mask_program r i c x) (mask-keep r i c x) is (bits-realised bits made small));
         cost = rw (bits-program bits) (m.cost ∙ sym (rw (bits-for r o i c x f ∙ bits) refl));
         range = rw (bits-program bits) m.range;
       }

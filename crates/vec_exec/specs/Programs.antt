@@ -1,5 +1,5 @@
 -- The program of an instruction, what it costs, and when a list realises an instruction.
-use Rattle.std.specs.Prelude.{◌≡◌, ◌⊎◌, ◌<◌, ◌%◌, ◌^◌, ℕ, zero, suc, ◌+◌, ◌*◌, ◌/◌, Bool, true, false, cond, ◌&&◌, not, List, [], ◌∷◌, ◌++◌, Option, Some, None, is_some}
+use Rattle.std.specs.Prelude.{◌≡◌, ◌<◌, ℕ, zero, suc, ◌+◌, ◌*◌, ◌/◌, Bool, true, false, cond, ◌&&◌, not, List, [], ◌∷◌, ◌++◌, Option, Some, None}
 use Rattle.std.specs.Option.{option_map_or}
 use Rattle.bit_laws.specs.Numbers.{low}
 use Rattle.bit_rows.specs.Slices.{Slices}
@@ -33,7 +33,7 @@ use Rattle.rvv_meaning.specs.Elementwise.{is_ones, registers_after, clips as cli
 use Rattle.rvv_meaning.specs.Vectors.{Left, elements, number, left_of}
 use Rattle.vec_exec.specs.declared.recipes.Listed.{Listed}
 use Rattle.vec_exec.specs.declared.recipes.Recipe.{Recipe}
-use Rattle.vec_exec.specs.Recipes.{recipe_for, makes_bits, list_of, counts_of, length_of, Computes}
+use Rattle.vec_exec.specs.Recipes.{recipe_for, makes_bits, HasDivisionRows, list_of, counts_of, length_of, Computes}
 
 -- whether an instruction is carried out by a program: not a gather by a vector of indices, a compression, an iota, a move
 -- to a scalar register, a configuration, a load or a store
@@ -106,7 +106,7 @@ mask_fill_list c to = cond (is_ones c.policy) (micros c.vtype.sew (fill_step c.v
 
 -- the list of register g of the destination, and that of register g of the operands of a mask
 abbrev pub kind_list : Recipe → VInstr → Cfg → (g : ℕ) → List MicroOp
-kind_list r i c g = list_of (list_for r i) c.vtype.sew (row_of (operands_in r.order i).a g) (row_of (operands_in r.order i).b g) (i.vd + g) (i.vd + g)
+kind_list r i c g = list_of (list_for r i) c.vtype.sew (row_of (operands_in r.order i).a g) (row_of (operands_in r.order i).b g) (row_of (operands_in r.order i).addend g) (i.vd + g)
 
 abbrev pub truth_list : Recipe → VInstr → Cfg → (g : ℕ) → List MicroOp
 truth_list r i c g = list_of (list_for r i) c.vtype.sew (row_of (compare_operands i).a g) (row_of (compare_operands i).b g) i.vd i.vd
@@ -178,12 +178,15 @@ pub record IsPlaced (r : Recipe) (i : VInstr) (g : ℕ) : Type 0 where
   pub vd : i.vd + g < 32
   pub a : IsOperandRow (row_of (operands_in r.order i).a g)
   pub b : IsOperandRow (row_of (operands_in r.order i).b g)
+  pub addend : IsOperandRow (row_of (operands_in r.order i).addend g)
+  pub division : HasDivisionRows (list_for r i) (row_of (operands_in r.order i).a g) (row_of (operands_in r.order i).b g)
 
 -- the rows of the operands of a mask are there
 pub record IsMaskPlaced (i : VInstr) (g : ℕ) : Type 0 where
   pub vd : i.vd < 32
   pub a : IsOperandRow (row_of (compare_operands i).a g)
   pub b : IsOperandRow (row_of (compare_operands i).b g)
+  pub division : (list : Listed) → HasDivisionRows list (row_of (compare_operands i).a g) (row_of (compare_operands i).b g)
 
 -- ---- what a program is for
 
@@ -205,7 +208,7 @@ RealisesInstruction i c x ops =
 
 -- What the list of register g computes, from the rows of its operands, and what it costs.
 pub record IsMade (r : Recipe) (i : VInstr) (c : Cfg) (g : ℕ) : Type 0 where
-  pub computes : Computes (list_for r i) c.vtype.sew (row_of (operands_in r.order i).a g) (row_of (operands_in r.order i).b g) (i.vd + g) (i.vd + g)
+  pub computes : Computes (list_for r i) c.vtype.sew (row_of (operands_in r.order i).a g) (row_of (operands_in r.order i).b g) (row_of (operands_in r.order i).addend g) (i.vd + g)
   pub cost : Measured (counts_of (list_for r i) c.vtype.sew) (length_of (list_for r i) c.vtype.sew) (kind_list r i c g)
 
 -- The same of a list that tells the truths of register g of the operands of a mask.

@@ -43,22 +43,24 @@ fn second_row(i: &VInstr, register: u8) -> u8
     }
 }
 
-// The rows of a list's operands for a register of the group, and the register that it writes, which is its third operand too.
-// A list that takes vs1 alone has the destination in the place of vs2.
+// The rows of a list's operands for a register of the group, and the register that it writes. A list that takes vs1 alone has
+// the destination in the place of vs2.
 pub(crate) fn place(recipe: Recipe, i: &VInstr, register: u8) -> Place
     requires { IsPlaced recipe i.now register }
     ensures a { result.a ≡ row_of (operands_in recipe.order i.now).a register }
     ensures b { result.b ≡ row_of (operands_in recipe.order i.now).b register }
-    ensures addend { result.addend ≡ i.now.vd + register }
+    ensures addend { result.addend ≡ row_of (operands_in recipe.order i.now).addend register }
     ensures to { result.to ≡ i.now.vd + register }
 {
     let to = i.vd + register;
-    let (a, b) = match recipe.order {
-        Order::Straight => (i.vs2 + register, second_row(i, register)),
-        Order::Reversed => (second_row(i, register), i.vs2 + register),
-        Order::Second => (to, second_row(i, register)),
+    let second = second_row(i, register);
+    let (a, b, addend) = match recipe.order {
+        Order::Straight => (i.vs2 + register, second, to),
+        Order::Reversed => (second, i.vs2 + register, to),
+        Order::Second => (to, second, to),
+        Order::Exchanged => (to, second, i.vs2 + register),
     };
-    at_rows(a, b, to)
+    at_rows(a, b, addend, to)
 }
 
 // The rows of a comparison's operands for a register of their groups.
@@ -69,20 +71,20 @@ pub(crate) fn mask_place(i: &VInstr, register: u8) -> Place
     ensures addend { result.addend ≡ i.now.vd }
     ensures to { result.to ≡ i.now.vd }
 {
-    at_rows(i.vs2 + register, second_row(i, register), i.vd)
+    at_rows(i.vs2 + register, second_row(i, register), i.vd, i.vd)
 }
 
-// A place of these rows, whose third operand is the register that is written.
-pub(crate) fn at_rows(a: u8, b: u8, to: u8) -> Place
+// A place of these rows.
+pub(crate) fn at_rows(a: u8, b: u8, addend: u8, to: u8) -> Place
     ensures a { result.a ≡ a }
     ensures b { result.b ≡ b }
-    ensures addend { result.addend ≡ to }
+    ensures addend { result.addend ≡ addend }
     ensures to { result.to ≡ to }
 {
     Place {
         a,
         b,
-        addend: to,
+        addend,
         to,
         sub: false,
         mode: 0,

@@ -65,7 +65,7 @@ fn emit_scalar<W: Width>(recipe: Recipe, i: &VInstr, cfg: &Cfg, scalar: u32, buf
     ensures ops { buf.new.ops ≡ buf.old.ops ++ scalar_list recipe.signed i.now cfg.now scalar }
     ensures spare { buf.new.spare + cond (has_scalar i.now.form) 4 0 ≡ buf.old.spare }
 {
-    let at = at_rows(0, 0, 0);
+    let at = at_rows(0, 0, 0, 0);
     match i.form {
         Form::V => {}
         Form::X => emit_splat::<W>(buf, &at, scalar),

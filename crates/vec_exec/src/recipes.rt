@@ -1,17 +1,21 @@
 // The recipe of each operation: the lists of micro-operations by which it is computed. A kind of instruction is a row of the
-// table in `recipe_of` and one of `recipe_for` in specs/Recipes; a generator is an arm of `emit_list`.
+// tables in `opi_recipe` and `opm_recipe`, and one of `recipe_for` in specs/Recipes; a generator is an arm of `emit_list`.
 ghost use Rattle.std.specs.Prelude.{◌≡◌, ℕ, ◌<◌, ◌≤◌, ◌+◌, ◌++◌, true, false};
 ghost use Rattle.micro_ir.specs.Measures.{Measured};
 ghost use Rattle.micro_ir.specs.WorkRows.{IsOperandRow};
+ghost use Rattle.rvv_decode.specs.declared.instruction.VOp.TheVariants.{Opi, Opm};
 ghost use Rattle.vec_exec.specs.declared.recipes.Listed.{Listed};
-ghost use Rattle.vec_exec.specs.Recipes.{recipe_for, list_of, counts_of, length_of, Computes, makes_bits as tells_bits};
+ghost use Rattle.vec_exec.specs.Recipes.{recipe_for, list_of, counts_of, length_of, Computes, HasDivisionRows, makes_bits as tells_bits};
 
 use bit_laws::Width;
 use frame_meaning::Order;
 use gen_arith::{Choice, Sum, Truth, arith_length_law, emit_choice, emit_sum, emit_truth};
+use gen_div::{Division, division_length_law, emit_division};
 use gen_logic::{Logic, emit_logic, logic_length_law};
+use gen_mul::{Product, emit_product, product_length_law};
+use gen_shift::{Shift, emit_shift, shift_length_law};
 use micro_ir::{MicroBuf, Place};
-use rvv_decode::{OpiOp, VOp};
+use rvv_decode::{OpiOp, OpmOp, VOp};
 
 /// A list: a generator's table, and a kind of it.
 #[derive(Clone, Copy, PartialEq, Eq)]
@@ -20,6 +24,9 @@ pub(crate) enum Listed {
     Sums(Sum),
     Truths(Truth),
     Choices(Choice),
+    Shifts(Shift),
+    Products(Product),
+    Divisions(Division),
 }
 
 /// How an operation is computed: the list where the mask is no operand, and the one where it is; whether the mask is one
@@ -43,6 +50,19 @@ const fn of_two(list: Listed) -> Recipe
         takes_mask: false,
         order: Order::Straight,
         signed: true,
+    }
+}
+
+// The same where an immediate has no sign.
+const fn of_unsigned(list: Listed) -> Recipe
+    ensures { result ≡ record { plain = list; masked = list; takes_mask = false; order = Order.Straight; signed = false } }
+{
+    Recipe {
+        plain: list,
+        masked: list,
+        takes_mask: false,
+        order: Order::Straight,
+        signed: false,
     }
 }
 
@@ -77,9 +97,18 @@ const fn ordered(list: Listed, order: Order) -> Recipe
 pub(crate) fn recipe_of(op: VOp) -> Option<Recipe>
     ensures { result ≡ recipe_for op }
 {
-    let VOp::Opi(op) = op else {
-        return None;
-    };
+    match op {
+        VOp::Opi(op) => opi_recipe(op),
+        VOp::Opm(op) => opm_recipe(op),
+        VOp::Config(_) | VOp::Memory(_) => None,
+    }
+}
+
+// The recipes of OPIVV, OPIVX and OPIVI.
+#[tactic(auto, unfolding(crate::specs::Recipes::recipe_for))]
+fn opi_recipe(op: OpiOp) -> Option<Recipe>
+    ensures { result ≡ recipe_for (Opi op) }
+{
     let recipe = match op {
         OpiOp::Vadd => of_two(Listed::Sums(Sum::Add)),
         OpiOp::Vsub => of_two(Listed::Sums(Sum::Sub)),
@@ -91,6 +120,9 @@ pub(crate) fn recipe_of(op: VOp) -> Option<Recipe>
         OpiOp::Vand => of_two(Listed::Bits(Logic::And)),
         OpiOp::Vor => of_two(Listed::Bits(Logic::Or)),
         OpiOp::Vxor => of_two(Listed::Bits(Logic::Xor)),
+        OpiOp::Vsll => of_unsigned(Listed::Shifts(Shift::Sll)),
+        OpiOp::Vsrl => of_unsigned(Listed::Shifts(Shift::Srl)),
+        OpiOp::Vsra => of_unsigned(Listed::Shifts(Shift::Sra)),
         OpiOp::Vmseq => of_two(Listed::Truths(Truth::Eq)),
         OpiOp::Vmsne => of_two(Listed::Truths(Truth::Ne)),
         OpiOp::Vmsltu => of_two(Listed::Truths(Truth::Ltu)),
@@ -110,6 +142,29 @@ pub(crate) fn recipe_of(op: VOp) -> Option<Recipe>
     Some(recipe)
 }
 
+// Those of OPMVV and OPMVX.
+#[tactic(auto, unfolding(crate::specs::Recipes::recipe_for))]
+fn opm_recipe(op: OpmOp) -> Option<Recipe>
+    ensures { result ≡ recipe_for (Opm op) }
+{
+    let recipe = match op {
+        OpmOp::Vmul => of_two(Listed::Products(Product::Mul)),
+        OpmOp::Vmulh => of_two(Listed::Products(Product::Mulh)),
+        OpmOp::Vmulhu => of_two(Listed::Products(Product::Mulhu)),
+        OpmOp::Vmulhsu => of_two(Listed::Products(Product::Mulhsu)),
+        OpmOp::Vdivu => of_two(Listed::Divisions(Division::Divu)),
+        OpmOp::Vdiv => of_two(Listed::Divisions(Division::Div)),
+        OpmOp::Vremu => of_two(Listed::Divisions(Division::Remu)),
+        OpmOp::Vrem => of_two(Listed::Divisions(Division::Rem)),
+        OpmOp::Vmacc => of_two(Listed::Products(Product::Macc)),
+        OpmOp::Vnmsac => of_two(Listed::Products(Product::Nmsac)),
+        OpmOp::Vmadd => ordered(Listed::Products(Product::Macc), Order::Exchanged),
+        OpmOp::Vnmsub => ordered(Listed::Products(Product::Nmsac), Order::Exchanged),
+        _ => return None,
+    };
+    Some(recipe)
+}
+
 /// Whether the list tells a truth of each element, and so makes the bits of a mask.
 pub(crate) fn makes_bits(list: Listed) -> bool
     ensures { result ≡ tells_bits list }
@@ -123,6 +178,9 @@ pub(crate) fn list_length_law()
 {
     logic_length_law();
     arith_length_law();
+    shift_length_law();
+    product_length_law();
+    division_length_law();
 }
 
 /// Appends a list.
@@ -130,6 +188,8 @@ pub(crate) fn list_length_law()
 pub(crate) fn emit_list<W: Width>(list: Listed, at: &Place, buf: &mut MicroBuf)
     requires a { IsOperandRow at.now.a }
     requires b { IsOperandRow at.now.b }
+    requires addend { IsOperandRow at.now.addend }
+    requires division { HasDivisionRows list at.now.a at.now.b }
     requires to { at.now.to < 32 }
     requires room { length_of list W.BITS ≤ buf.old.spare }
     ensures ops { buf.new.ops ≡ buf.old.ops ++ list_of list W.BITS at.now.a at.now.b at.now.addend at.now.to }
@@ -142,5 +202,8 @@ pub(crate) fn emit_list<W: Width>(list: Listed, at: &Place, buf: &mut MicroBuf)
         Listed::Sums(kind) => emit_sum::<W>(buf, at, kind),
         Listed::Truths(kind) => emit_truth::<W>(buf, at, kind),
         Listed::Choices(kind) => emit_choice::<W>(buf, at, kind),
+        Listed::Shifts(kind) => emit_shift::<W>(buf, at, kind),
+        Listed::Products(kind) => emit_product::<W>(buf, at, kind),
+        Listed::Divisions(kind) => emit_division::<W>(buf, at, kind),
     }
 }

@@ -3,7 +3,7 @@ ghost use Rattle.std.specs.Prelude.{◌≡◌, ℕ, ◌+◌, ◌*◌, ◌/◌, �
 ghost use Rattle.rvv_meaning.specs.Elementwise.{is_ones};
 ghost use Rattle.micro_ir.specs.Measures.{Measured};
 ghost use Rattle.micro_ir.specs.WorkRows.{IsOperandRow};
-ghost use Rattle.vec_exec.specs.Recipes.{list_at, length_of, counts_of, Computes};
+ghost use Rattle.vec_exec.specs.Recipes.{list_at, length_of, counts_of, Computes, HasDivisionRows};
 ghost use Rattle.vec_exec.specs.Programs.{IsPlaced, IsMaskPlaced, IsMade, IsMaskMade, fill_list, window_list, list_for, register_list, register_length, registers_list, free_bits, free_count, mask_register_list, mask_register_length, mask_registers_list, mask_fill_list, reads, masked};
 
 use crate::operands::{at_rows, mask_place, place};
@@ -71,7 +71,7 @@ fn emit_free<W: Width>(cfg: &Cfg, first: u32, masked: bool, to: u8, buf: &mut Mi
         Policy::Keep => {}
         Policy::Ones => {
             free(buf, cfg, cfg.vtype.sew, first, masked, cfg.vtype.vta);
-            emit_fill::<W>(buf, &at_rows(to, to, to));
+            emit_fill::<W>(buf, &at_rows(to, to, to, to));
         }
     }
 }
@@ -91,6 +91,8 @@ fn emit_marked<W: Width>(cfg: &Cfg, mask: Use, first: u32, at: &Place, buf: &mut
     requires width { cfg.now.vtype.sew ≡ W.BITS }
     requires a { IsOperandRow at.now.a }
     requires b { IsOperandRow at.now.b }
+    requires addend { IsOperandRow at.now.addend }
+    requires division { HasDivisionRows mask.list at.now.a at.now.b }
     requires to { at.now.to < 32 }
     requires room { 1 + cond mask.reads 1 0 + length_of mask.list W.BITS ≤ buf.old.spare }
     ensures ops { buf.new.ops ≡ buf.old.ops
@@ -220,6 +222,6 @@ pub(crate) fn emit_mask_fill<W: Width>(cfg: &Cfg, to: u8, buf: &mut MicroBuf)
 {
     match cfg.policy {
         Policy::Keep => {}
-        Policy::Ones => emit_fill::<W>(buf, &at_rows(to, to, to)),
+        Policy::Ones => emit_fill::<W>(buf, &at_rows(to, to, to, to)),
     }
 }

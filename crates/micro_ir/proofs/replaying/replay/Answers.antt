@@ -1,13 +1,14 @@
-use Rattle.std.proofs.Common.{◌≡◌, Bool, true, false, ◌||◌, ◌<◌, length, take, arith, refl, ◌∙◌, ap, sym}
-use Rattle.micro_ir.specs.Replay.{replay, tally, state_of}
-use Rattle.micro_ir.proofs.Lists.{replay_more, tally_more, clips-none, IsInRange-at, few-one, counts_and-assoc, counts_and-none}
-use Rattle.micro_ir.proofs.Lift.{replay-num}
+use Rattle.std.proofs.Common.{◌≡◌, ◌||◌, ◌<◌, length, arith, refl, ◌∙◌, sym, ap}
+use Rattle.bit_rows.specs.Slices.{Slices}
+use Rattle.micro_ir.specs.Replay.{replay, clips, tally, state_of}
+use Rattle.micro_ir.proofs.Lists.{replay_more, clips_more, or_assoc, or_false, tally_more, IsInRange-at, few-one, counts_and-assoc, counts_and-none}
 use Rattle.micro_ir.proofs.replaying.replay.Goals as goal
 
 pub loop-i-init : goal.loop-i-init
-unfolding replay tally
+unfolding replay tally clips
 loop-i-init c = record {
   slices = refl;
+  clip = sym (or_false c.args.ctl.now.clip);
   counted = sym (counts_and-none _);
   columns = refl;
   searches = c.requires.searches;
@@ -26,7 +27,9 @@ loop-i-preserved c =
     let inside : c.loop-i.i < length c.args.buf.now.ops = let w = c.requires.within in omega arith in
     let few = few-one c.args.chain.now.columns c.index-ops-i.result (IsInRange-at c.args.chain.now.columns c.args.first _ c.loop-i.i _ c.requires.in_range c.loop-i-test.true inside at) in
     record {
-      slices = c.apply.ensures.slices c.args.ctl.now.num ∙ rw p.slices (sym (replay_more _ c.loop-i.i c.index-ops-i.result _ inside at));
+      slices = c.apply.ensures.slices ∙ rw p.slices (sym (replay_more _ c.loop-i.i c.index-ops-i.result _ inside at));
+      clip = c.apply.ensures.clip ∙ rw (p.slices, p.clip) (or_assoc c.args.ctl.now.clip _ _
+          ∙ ap (λ b. c.args.ctl.now.clip || b) (sym (clips_more _ c.loop-i.i c.index-ops-i.result (state_of c.args.chain.now c.args.ctl.now.num) inside at)));
       counted = c.apply.ensures.counted ∙ rw p.counted (rw (tally_more _ c.loop-i.i c.index-ops-i.result inside at) (sym (counts_and-assoc _ _ _)));
       columns = c.apply.ensures.columns ∙ p.columns;
       searches = rw c.apply.ensures.counted (omega (arith, few.searches, p.searches));
@@ -36,11 +39,8 @@ loop-i-preserved c =
 
 pub returns-clause-control : goal.returns-clause-control
 returns-clause-control c =
-    let ops = take c.args.first c.args.buf.now.ops in
-    let s = state_of c.args.chain.now c.args.ctl.now.num in
-    let before = c.args.ctl.now in
-    rw (replay-num ops s, clips-none ops s) (ap (λ (b : Bool). record before { clip = b }) (kept before.clip))
-  where
-    kept : (b : Bool) → b ≡ b || false
-    kept true = refl
-    kept false = refl
+    let p = c.loop-i.invariant in
+    let e : c.loop-i.i ≡ c.args.first = let a = c.loop-i-test.false in let b = c.loop-i.auto.i-end in omega arith in
+    let n = ap (λ (s : Slices). s.num) (rw e at p.slices) in
+    let b = rw e at p.clip in
+    λ i. record { num = n i; clip = b i }

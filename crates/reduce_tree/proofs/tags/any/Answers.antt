@@ -1,6 +1,5 @@
-use Rattle.std.proofs.Common.{◌≡◌, ℕ, ◌<◌, ◌&&◌, Bool, true, refl, sym, ◌∙◌, arith}
+use Rattle.std.proofs.Common.{ℕ, ◌<◌, ◌&&◌, refl}
 use Rattle.std.proofs.lemmas.Bool.{ltb-true, lt-ltb, and_parts}
-use Rattle.std.specs.List.{count_by, range_with_len}
 use Rattle.reduce_tree.specs.Tags.{places, is_tagged, is_selected, tags_in}
 use Rattle.reduce_tree.proofs.Counting.{count_some, some_counted}
 use Rattle.reduce_tree.proofs.tags.any.Goals as goal

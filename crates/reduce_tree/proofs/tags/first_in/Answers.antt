@@ -1,4 +1,4 @@
-use Rattle.std.proofs.Common.{◌<◌, ◌≤◌, true, false, sym, ◌∙◌, arith}
+use Rattle.std.proofs.Common.{◌<◌, arith}
 use Rattle.reduce_tree.proofs.FirstTags.{word_first, word_none, col_few}
 use Rattle.reduce_tree.proofs.tags.first_in.Goals as goal
 

@@ -1,6 +1,6 @@
-use Rattle.std.proofs.Common.{◌≡◌, ℕ, ◌+◌, ◌*◌, ◌/◌, ◌<◌, ◌&&◌, true, false, ltb, length, refl, sym, ◌∙◌, arith}
+use Rattle.std.proofs.Common.{◌≡◌, ◌+◌, ◌*◌, ◌&&◌, ltb, refl, sym, ◌∙◌, arith}
 use Rattle.steer_net.specs.Network.{bit_in}
-use Rattle.steer_net.proofs.LaneRows.{MaskRead, mask_start, mask_set, mask_clear}
+use Rattle.steer_net.proofs.LaneRows.{mask_start, mask_set, mask_clear}
 use Rattle.steer_net.proofs.lanes.mask_bits.Goals as goal
 use Rattle.steer_net.proofs.lanes.mask_bits.Goals.{then-mask_bit, else-mask_bit}
 

@@ -1,4 +1,4 @@
-use Rattle.std.proofs.Common.{◌≡◌, ℕ, ◌+◌, ◌*◌, ◌/◌, ◌<◌, ◌&&◌, ltb, refl, ap, ◌∙◌, arith}
+use Rattle.std.proofs.Common.{◌≡◌, ℕ, ◌+◌, ◌*◌, ◌/◌, ◌&&◌, ltb, refl, ap, ◌∙◌, arith}
 use Rattle.bit_rows.specs.Slices.{Slices}
 use Rattle.bit_rows.specs.Words.{word_bit}
 use Rattle.steer_net.specs.Network.{bit_in, position}

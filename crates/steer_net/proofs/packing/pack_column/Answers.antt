@@ -1,4 +1,4 @@
-use Rattle.std.proofs.Common.{◌≡◌, ◌+◌, ◌-◌, ◌*◌, ◌<◌, true, sym, ◌∙◌, refl, arith}
+use Rattle.std.proofs.Common.{◌≡◌, ◌+◌, ◌-◌, ◌*◌, ◌<◌, true, sym, ◌∙◌, arith}
 use Rattle.bit_rows.specs.Words.{word_bit}
 use Rattle.steer_net.specs.Network.{is_packed, top_bit}
 use Rattle.steer_net.proofs.SubarrayRows.{named_bit, unnamed_bit, named_below, top_below}

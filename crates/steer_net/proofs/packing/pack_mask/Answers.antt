@@ -1,4 +1,4 @@
-use Rattle.std.proofs.Common.{not, ◌&&◌, eqb, sym, ◌∙◌}
+use Rattle.std.proofs.Common.{not, eqb, sym, ◌∙◌}
 use Rattle.std.proofs.lemmas.Bool.{and_parts}
 use Rattle.steer_net.proofs.SubarrayRows.{apart}
 use Rattle.steer_net.proofs.packing.pack_mask.Goals as goal

@@ -1,9 +1,9 @@
 use Rattle.std.proofs.Common.{◌≡◌, ℕ, ◌+◌, ◌*◌, ◌&&◌, Bool, ltb, refl, ap, ◌∙◌, arith}
 use Rattle.bit_rows.specs.Slices.{Slices}
 use Rattle.bit_rows.specs.Words.{word_bit}
-use Rattle.steer_net.specs.Network.{position, PackReaches}
+use Rattle.steer_net.specs.Network.{position}
 use Rattle.steer_net.specs.Rows.{partly, spans, packed_bit}
-use Rattle.steer_net.proofs.LaneRows.{none_written, lanes_all}
+use Rattle.steer_net.proofs.LaneRows.{lanes_all}
 use Rattle.steer_net.proofs.Packed.{by_packed}
 use Rattle.steer_net.proofs.SubarrayRows.{subarray_bits, packed_kept}
 use Rattle.steer_net.proofs.packing.pack_subarrays.Goals as goal

@@ -1,4 +1,4 @@
-use Rattle.std.proofs.Common.{◌≡◌, ◌+◌, ◌*◌, ◌/◌, ◌<◌, ◌≤◌, refl, arith, min}
+use Rattle.std.proofs.Common.{◌≡◌, ◌+◌, ◌*◌, ◌/◌, refl, arith, min}
 use Rattle.steer_net.proofs.SubarrayRows.{replaced_start, replaced_more, replaced_all}
 use Rattle.steer_net.proofs.packing.packed_words.Goals as goal
 

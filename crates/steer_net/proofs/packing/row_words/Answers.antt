@@ -1,4 +1,4 @@
-use Rattle.std.proofs.Common.{◌≡◌, length, refl, arith}
+use Rattle.std.proofs.Common.{length, refl, arith}
 use Rattle.steer_net.proofs.SubarrayRows.{copied}
 use Rattle.steer_net.proofs.packing.row_words.Goals as goal
 

@@ -1,4 +1,4 @@
-use Rattle.std.proofs.Common.{true, sym, ◌∙◌, rules}
+use Rattle.std.proofs.Common.{true, sym, ◌∙◌}
 use Rattle.steer_net.proofs.Spans.{word-alike}
 use Rattle.steer_net.proofs.ranges.all_bits.Goals as goal
 

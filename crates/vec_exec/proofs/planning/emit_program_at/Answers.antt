@@ -1,12 +1,10 @@
-use Rattle.std.proofs.Common.{◌≡◌, ℕ, true, false, ◌+◌, ◌*◌, ◌≤◌, ◌++◌, cond, ◌∙◌, sym, arith, append_assoc}
+use Rattle.std.proofs.Common.{◌≡◌, true, false, ◌≤◌, ◌∙◌, sym, arith, append_assoc}
 use Rattle.vtype_cfg.proofs.Supported.{vlen_bounded}
-use Rattle.legal_groups.specs.Facts.{group_count}
 use Rattle.frame_meaning.specs.Costs.{length_of as program_length}
 use Rattle.frame_meaning.specs.Masks.{compare_length_of}
 use Rattle.frame_meaning.specs.Shapes.{has_scalar}
 use Rattle.rvv_meaning.specs.Elementwise.{is_ones}
-use Rattle.vec_exec.specs.Recipes.{makes_bits, length_of}
-use Rattle.vec_exec.specs.Programs.{list_for}
+use Rattle.vec_exec.specs.Recipes.{makes_bits}
 use Rattle.vec_exec.proofs.Fits.{fitted}
 use Rattle.vec_exec.proofs.Planned.{wide, valid-length, plans, mask-plans, elements-fine, bits-fine, elements-program, bits-program, elements-measured, bits-measured, reads-for}
 use Rattle.vec_exec.proofs.Written.{width-most, flag-few, fill-parts, registers-few, mask-registers-few}

@@ -1,7 +1,10 @@
-use Rattle.std.proofs.Common.{ℕ, ◌≤◌, arith}
+use Rattle.std.proofs.Common.{ℕ, ◌≤◌, ◌+◌, ◌*◌, arith}
+use Rattle.std.proofs.lemmas.Nat.{mul-le}
+use Rattle.rvv_meaning.specs.Operations.{log2}
 use Rattle.vec_exec.specs.declared.recipes.Listed.{Listed}
-use Rattle.vec_exec.specs.declared.recipes.Listed.TheVariants.{Bits, Sums, Truths, Choices}
+use Rattle.vec_exec.specs.declared.recipes.Listed.TheVariants.{Bits, Sums, Truths, Choices, Shifts, Products, Divisions}
 use Rattle.vec_exec.specs.Recipes.{length_of}
+use Rattle.vec_exec.proofs.Widths.{log2-small}
 use Rattle.vec_exec.proofs.recipes.list_length_law.Goals as goal
 
 pub returns : goal.returns
@@ -13,3 +16,15 @@ returns c = few
     few (Sums kind) w most = omega (arith, c.arith_length_law.ensures.sums kind w)
     few (Truths kind) w most = omega (arith, c.arith_length_law.ensures.truths kind w)
     few (Choices kind) w most = omega arith
+    few (Shifts kind) w most =
+        let each : 3 * w + 15 ≤ 111 = omega arith in
+        let stages : log2 w * (3 * w + 15) ≤ 5 * 111 = mul-le (log2 w) (3 * w + 15) 5 111 (log2-small w) each in
+        omega (arith, c.shift_length_law.ensures kind w (log2 w))
+    few (Products kind) w most =
+        let each : 20 * w + 61 ≤ 701 = omega arith in
+        let rounds : w * (20 * w + 61) ≤ 32 * 701 = mul-le w (20 * w + 61) 32 701 most each in
+        omega (arith, rounds, c.product_length_law.ensures kind w)
+    few (Divisions kind) w most =
+        let each : 14 * w + 75 ≤ 523 = omega arith in
+        let rounds : w * (14 * w + 75) ≤ 32 * 523 = mul-le w (14 * w + 75) 32 523 most each in
+        omega (arith, rounds, c.division_length_law.ensures kind w)

@@ -3,6 +3,9 @@ use Rattle.vec_exec.specs.Recipes.{list_of}
 use Rattle.vec_exec.specs.Programs.{window_list, mask_register_list}
 use Rattle.vec_exec.proofs.registers.emit_mask_register.Goals as goal
 
+pub emit_marked-requires-clause-division : goal.emit_marked-requires-clause-division
+emit_marked-requires-clause-division g c = rw (c.mask_place-at.ensures.a, c.mask_place-at.ensures.b) (c.requires.placed.division c.use_of-mask.result.list)
+
 pub returns-clause-ops : goal.returns-clause-ops
 unfolding mask_register_list
 returns-clause-ops g c =

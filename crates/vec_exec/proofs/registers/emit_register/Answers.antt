@@ -3,6 +3,9 @@ use Rattle.vec_exec.specs.Recipes.{list_of}
 use Rattle.vec_exec.specs.Programs.{window_list, register_list}
 use Rattle.vec_exec.proofs.registers.emit_register.Goals as goal
 
+pub emit_marked-requires-clause-division : goal.emit_marked-requires-clause-division
+emit_marked-requires-clause-division g c = rw (c.use_of-mask.ensures.list, c.place-at.ensures.a, c.place-at.ensures.b) c.requires.placed.division
+
 pub returns-clause-ops : goal.returns-clause-ops
 unfolding register_list
 returns-clause-ops g c =

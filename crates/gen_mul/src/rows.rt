@@ -1,0 +1,8 @@
+// The rows that products work in, beside those of all programs.
+// They are to stand with the rows of work of micro_ir.
+
+/// The high half of a product without a sign.
+pub const HIGH_ROW: u8 = 42;
+
+/// The high half of a product of two numbers with a sign.
+pub const CORRECTED_ROW: u8 = 39;

@@ -1,0 +1,2 @@
+-- The parts of the lists of products and of quotients.
+pub mod Sums

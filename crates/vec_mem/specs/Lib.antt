@@ -1,0 +1,3 @@
+-- What loads and stores do to the registers of a chain and to memory.
+pub mod Views
+pub mod Steps

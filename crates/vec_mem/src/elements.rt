@@ -1,0 +1,82 @@
+// Elements of vector registers that a chain holds.
+ghost use Rattle.std.specs.Prelude.{◌≡◌, ◌+◌, ◌-◌, ◌*◌, ◌/◌, ◌<◌, ◌≤◌, ◌^◌, ◌%◌};
+ghost use Rattle.element_ops.specs.Elements.{element_of, mask_bit_of, with_element, IsSize};
+ghost use Rattle.cam_chain.specs.ChainValue.{slices_of};
+ghost use Rattle.vec_mem.specs.Views.{vectors_of};
+ghost use Rattle.cam_chain.specs.Views.{KeepsRest};
+
+use bit_rows::Planes;
+use cam_chain::Chain;
+
+// The bytes of a column of a register.
+const WORD_BYTES: u32 = 4;
+
+// Bit `e` of v0.
+pub(crate) fn mask_bit(chain: &Chain, e: u32) -> bool
+    requires { e < 32 * chain.now.columns }
+    ensures { result ≡ mask_bit_of (vectors_of chain.now) 0 e }
+{
+    chain.bit((e % 32) as u8, 0, e / 32)
+}
+
+// The number of `size` bytes of a word from byte `from` on.
+fn part_of(word: u32, from: u32, size: u32) -> u32
+    requires { from + size ≤ 4 }
+    ensures { result ≡ word / 2 ^ (8 * from) % 2 ^ (8 * size) }
+{
+    let part = u64::from(word) / (1u64 << (8 * from)) % (1u64 << (8 * size));
+    part as u32
+}
+
+// The word with `size` bytes from byte `from` on in the place of its own.
+fn put_part(word: u32, from: u32, size: u32, value: u32) -> u32
+    requires { from + size ≤ 4 }
+    ensures { result
+        ≡ word % 2 ^ (8 * from)
+        + (value % 2 ^ (8 * size) + word / 2 ^ (8 * (from + size)) * 2 ^ (8 * size)) * 2 ^ (8 * from) }
+{
+    let below = 1u64 << (8 * from);
+    let inside = 1u64 << (8 * size);
+    let old = u64::from(word);
+    let upper = old / (1u64 << (8 * (from + size)));
+    let made = old % below + (u64::from(value) % inside + upper * inside) * below;
+    made as u32
+}
+
+// Element `at`, of `size` bytes, of the registers from `first` on.
+pub(crate) fn element(chain: &Chain, first: u8, size: u32, at: u32) -> u32
+    requires size { IsSize size }
+    requires place { (at + 1) * size ≤ (32 - first) * (4 * chain.now.columns) }
+    requires register { first < 32 }
+    ensures { result ≡ element_of (4 * chain.now.columns) (vectors_of chain.now) first (8 * size) at }
+{
+    let columns = chain.columns();
+    let place = at * size;
+    let word = place / WORD_BYTES;
+    let register = first + (word / columns) as u8;
+    part_of(
+        chain.read_word(register, word % columns),
+        place % WORD_BYTES,
+        size,
+    )
+}
+
+// Writes it.
+pub(crate) fn set_element(chain: &mut Chain, first: u8, size: u32, at: u32, value: u32)
+    requires size { IsSize size }
+    requires place { (at + 1) * size ≤ (32 - first) * (4 * chain.old.columns) }
+    requires register { first < 32 }
+    ensures vectors { vectors_of chain.new ≡ with_element (4 * chain.old.columns) (vectors_of chain.old) first (8 * size) at value }
+    ensures rest { KeepsRest (slices_of chain.old) (slices_of chain.new) }
+    ensures columns { chain.new.columns ≡ chain.old.columns }
+    ensures counts { chain.new.counts ≡ chain.old.counts }
+{
+    let columns = chain.columns();
+    let place = at * size;
+    let word = place / WORD_BYTES;
+    let register = first + (word / columns) as u8;
+    let column = word % columns;
+    let old = chain.read_word(register, column);
+    let new = put_part(old, place % WORD_BYTES, size, value);
+    chain.write_word(register, column, new);
+}

@@ -1,0 +1,3 @@
+-- Lemmas on programs and on images.
+pub mod Programs
+pub mod Loading
