@@ -1,0 +1,18 @@
+use Rattle.std.proofs.lemmas.Result.{err_from_is_err_and}
+use Rattle.cape_io.proofs.Writing.{writes_more, writes_stopped}
+use Rattle.debug_texts.specs.ShownTexts.{slice_line}
+use Rattle.debug_texts.proofs.RowLemmas.{row_shown, columns_of_slices}
+use Rattle.debug_texts.proofs.rows.write_slice.Goals as goal
+
+pub returns-in_err-write_row_after : goal.returns-in_err-write_row_after
+unfolding slice_line
+returns-in_err-write_row_after g c =
+    let shown = row_shown c.args.chain.now c.args.sub c.row.result.now c.requires.sub c.row.ensures.len c.args.row c.row.ensures.bits in
+    let p = err_from_is_err_and c.from_residual.result c.from_residual.ensures.1 in
+    rw (p.1, columns_of_slices c.args.chain.now) (writes_stopped g.O.Sink _ _ _ _ (rw (c.slice_head.ensures, shown) at c.in_err-write_row_after.ensures))
+
+pub returns : goal.returns
+unfolding slice_line
+returns g c =
+    let shown = row_shown c.args.chain.now c.args.sub c.row.result.now c.requires.sub c.row.ensures.len c.args.row c.row.ensures.bits in
+    rw (columns_of_slices c.args.chain.now) (writes_more g.O.Sink _ _ _ _ _ _ (rw (c.slice_head.ensures, shown) at c.in_ok-write_row_after.ensures) c.write_text.ensures)

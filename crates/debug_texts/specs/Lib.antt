@@ -1,0 +1,2 @@
+-- What the answers of a session say of what a machine holds.
+pub mod ShownTexts
