@@ -19,5 +19,4 @@ counts_end n = codes " searches " ++ decimal n.searches ++ codes " updates " ++ 
 -- the line about the run of a workload: its seed and its size, the code that it exited with, and what it took
 unfoldable pub bench_line : (seed size code retired : ℕ) → Counts → List ℕ
 bench_line seed size code retired n =
-    codes "seed " ++ decimal seed ++ codes " size " ++ decimal size ++ codes " exit " ++ decimal code ++ codes " instructions " ++ decimal retired
-    ++ codes " searches " ++ decimal n.searches ++ codes " updates " ++ decimal n.updates ++ codes " passes " ++ decimal n.passes ++ codes "\n"
+    codes "seed " ++ decimal seed ++ codes " size " ++ decimal size ++ codes " exit " ++ decimal code ++ codes " instructions " ++ decimal retired ++ counts_end n
