@@ -9,10 +9,9 @@ import multiprocessing
 import os
 import random
 import struct
-import subprocess
 import sys
 
-from compare_vectors import first_difference, lmul, set_first, sew
+from compare_vectors import TOLD, first_difference, lmul, set_first, sew, told_by
 from guest import SETTINGS, load
 
 PAGE = 4096
@@ -36,8 +35,6 @@ ECALL, EXIT, PUT = 0x00000073, 93, 64
 # The scalar registers of a length, a first element, a base and a stride.
 LENGTH, FIRST, BASE, STRIDE = 5, 6, 11, 12
 MOST = 0xFFFFFFFF
-LONGEST = 300
-TOLD = 10
 
 
 def memory_word(opcode, fields, order, unmasked, second, base, width, register):
@@ -180,14 +177,9 @@ class Program:
         self.words.append(self.any_word())
 
 
-def told_by(program, path, options, environment):
-    """Status, output and error output of a run; none where the run takes too long."""
-    command = [program, "run", path, *options]
-    try:
-        run = subprocess.run(command, stdin=subprocess.DEVNULL, capture_output=True, env=environment, timeout=LONGEST)
-    except subprocess.TimeoutExpired:
-        return ["status none"]
-    return [f"status {run.returncode}", run.stdout.hex(), *run.stderr.decode().split("\n")]
+def digits_of(output):
+    """The bytes of an output, which are no text, as one line."""
+    return [output.hex()]
 
 
 def compared(job):
@@ -197,8 +189,8 @@ def compared(job):
     path = os.path.join(folder, f"image{os.getpid()}")
     with open(path, "wb") as file:
         file.write(image(program.words, program.data))
-    theirs = told_by(model, path, program.options, {"CAPE_REF_LEVEL": "5", "CAPE_REF_FAST": "1"})
-    ours = told_by(cape, path, program.options, {})
+    theirs = told_by(model, path, program.options, {"CAPE_REF_LEVEL": "5", "CAPE_REF_FAST": "1"}, digits_of)
+    ours = told_by(cape, path, program.options, {}, digits_of)
     report = next((line for line in theirs if line.startswith("cape: ")), "cape: none")
     end = "exited" if report.startswith("cape: exited") else " ".join(report.split()[1:3])
     return seed, end, " ".join(program.options), None if ours == theirs else first_difference(ours, theirs)

@@ -509,14 +509,18 @@ class Program:
         return kind.word(rng.choice(kind.unmasked), self.group(), self.group(), form, self.spared_group())
 
 
-def told_by(program, path, options, environment):
+def lines_of(output):
+    return output.decode().split("\n")
+
+
+def told_by(program, path, options, environment, shown_output=lines_of):
     """Status, output and error output of a run, as lines; none where the run takes too long."""
     command = [program, "run", path, *options]
     try:
         run = subprocess.run(command, stdin=subprocess.DEVNULL, capture_output=True, env=environment, timeout=LONGEST)
     except subprocess.TimeoutExpired:
         return ["status none"]
-    return [f"status {run.returncode}", *run.stdout.decode().split("\n"), *run.stderr.decode().split("\n")]
+    return [f"status {run.returncode}", *shown_output(run.stdout), *lines_of(run.stderr)]
 
 
 def shown(line, at):
