@@ -10,7 +10,7 @@ use std::fmt::Write;
 const ROOM: u32 = 4096;
 
 // The most columns of a chain.
-const MOST_COLUMNS: u32 = 2048;
+const MOST_COLUMNS: u32 = bit_rows::MAX_COLUMNS as u32;
 
 const DECIMAL: u32 = 10;
 

@@ -1,15 +1,11 @@
 //! The slices as lines.
 ghost use Rattle.std.specs.Prelude.{◌<◌};
 
-use bit_rows::Row;
+use bit_rows::{Row, SUBARRAYS};
 use cam_chain::Chain;
+use op_texts::ROWS;
 use std::alloc::AllocError;
 use std::fmt::Write;
-
-// The subarrays of a chain, and the rows of each.
-const SUBARRAYS: u8 = 32;
-
-const ROWS: u8 = 64;
 
 const BYTE_BITS: u32 = 8;
 
