@@ -3,3 +3,6 @@ pub mod Numbers
 pub mod Lists
 pub mod Digits
 pub mod Signed
+pub mod Ints
+pub mod Rounding
+mod Examples

@@ -1,5 +1,5 @@
 -- The list that adds a bit to each element of a row: what it makes of the rows, what it costs, and how it is written.
-use Rattle.std.proofs.Common.{◌≡◌, ◌≢◌, ℕ, ◌+◌, ◌-◌, ◌*◌, ◌/◌, ◌%◌, ◌^◌, ◌<◌, ◌≤◌, Bool, true, false, cond, eqb, not, ◌||◌, List, [], ◌∷◌, ◌++◌, zero, suc, length, map, refl, sym, ◌∙◌, ap, arith, inl, inr, ⊎_elim}
+use Rattle.std.proofs.Common.{◌≡◌, ◌≢◌, ℕ, ◌+◌, ◌-◌, ◌*◌, ◌/◌, ◌%◌, ◌^◌, ◌<◌, ◌≤◌, Bool, true, false, cond, eqb, ltb, not, ◌||◌, List, [], ◌∷◌, ◌++◌, zero, suc, length, map, refl, sym, ◌∙◌, ap, arith, inl, inr, ⊎_elim}
 use Rattle.std.specs.Int.{from_bool}
 use Rattle.std.proofs.lemmas.Bool.{ne_eqb, eq-eqb, and_parts, lt-ltb, le-ltb}
 use Rattle.std.proofs.lemmas.Nat.{mod-mul-add}
@@ -21,7 +21,7 @@ use Rattle.micro_ir.specs.Tables.{moved_subs, table_list, rows_list, LeavesNone}
 use Rattle.micro_ir.specs.Increments.{lowest_subs}
 use Rattle.micro_ir.proofs.Effects.{counts-same}
 use Rattle.micro_ir.proofs.PieceLists.{above-rows}
-use Rattle.micro_ir.proofs.StepLists.{step_counts, steps_counts, steps_counts-append, tally-micros}
+use Rattle.micro_ir.proofs.StepLists.{RowsFit, RowsFit-append, step_counts, steps_counts, steps_counts-append, tally-micros, step_length, steps_length, steps_length-append}
 use Rattle.micro_ir.proofs.Subs.{below-lt}
 use Rattle.micro_ir.proofs.TableLists.{rows-apart, rows-length}
 use Rattle.micro_ir.proofs.Folds.{level-whole}
@@ -74,11 +74,12 @@ carry-same x first e3 e xc same (suc i) = rw (ne_eqb x carry_row xc, same i, car
 
 -- ---- one element
 
-record Incremented (w x : ℕ) (inputs on : List ℕ) (e now : ℕ → ℕ → Bool) : Type 0 where
-  sum : number w (now result_row) ≡ low w (number w (e x) + from_bool (fires inputs on (λ r. e r 0)))
-  rest : (r i : ℕ) → r ≢ carry_row → r ≢ result_row → now r i ≡ e r i
+-- What the list makes of an element.
+pub record Incremented (w x : ℕ) (inputs on : List ℕ) (e now : ℕ → ℕ → Bool) : Type 0 where
+  pub sum : number w (now result_row) ≡ low w (number w (e x) + from_bool (fires inputs on (λ r. e r 0)))
+  pub rest : (r i : ℕ) → r ≢ carry_row → r ≢ result_row → now r i ≡ e r i
 
-incremented : (w x : ℕ) (inputs on : List ℕ) (e : ℕ → ℕ → Bool) → 0 < w → Without carry_row inputs → x ≢ carry_row → x ≢ result_row
+pub incremented : (w x : ℕ) (inputs on : List ℕ) (e : ℕ → ℕ → Bool) → 0 < w → Without carry_row inputs → x ≢ carry_row → x ≢ result_row
     → Incremented w x inputs on e (steps_on (increment w x inputs on) e)
 unfolding steps_on increment
 incremented w x inputs on e pos apart xc xd =
@@ -108,7 +109,7 @@ incremented w x inputs on e pos apart xc xd =
       rest = λ r i c d. p.rest r i c d ∙ same r i c d;
     }
 
-increment-fits : (w x : ℕ) (inputs on : List ℕ) → 0 < w → AllFit w (increment w x inputs on)
+pub increment-fits : (w x : ℕ) (inputs on : List ℕ) → 0 < w → AllFit w (increment w x inputs on)
 unfolding increment
 increment-fits w x inputs on pos = (
   clear-fits w carry_row,
@@ -162,12 +163,49 @@ unfolding increment
 counts-of x n inputs on some =
     rw (start-counts inputs on some, whole-counts x n) (counts-same _ _ _ _ _ _ (omega arith) (omega arith) (omega arith))
 
+pub increment-counts : (w x : ℕ) (inputs on : List ℕ) → 0 < w → 0 < length on → steps_counts (increment w x inputs on) ≡ counts (3 * w + 1 + length on) (2 * w + 2) (w - 1)
+increment-counts zero x inputs on pos some = absurd (omega arith)
+increment-counts (suc n) x inputs on pos some = counts-of x n inputs on some ∙ counts-same _ _ _ _ _ _ (omega arith) (omega arith) (omega arith)
+
 pub increment-cost : (w x : ℕ) (inputs on : List ℕ) → 0 < w → 0 < length on
     → Costs (3 * w + 1 + length on) (2 * w + 2) (w - 1) (micros w (increment w x inputs on))
-increment-cost zero x inputs on pos some = absurd (omega arith)
-increment-cost (suc n) x inputs on pos some =
-    tally-micros (suc n) (increment (suc n) x inputs on) ∙ counts-of x n inputs on some
-    ∙ counts-same _ _ _ _ _ _ (omega arith) (omega arith) (omega arith)
+increment-cost w x inputs on pos some = tally-micros w (increment w x inputs on) ∙ increment-counts w x inputs on pos some
+
+-- ---- how long it is, and that a chain can run it
+
+half-length : (w x n : ℕ) → n < w → steps_length (half_sums w x n) ≡ 6 * n
+unfolding ripple
+half-length w x zero h = refl
+half-length w x (suc n) h =
+    rw (steps_length-append (half_sums w x n) (digit w (x ∷ carry_row ∷ []) half_digits half_carries carry_row result_row n), half-length w x n (omega arith), lt-ltb (suc n) w h) (omega arith)
+
+whole-length : (x n : ℕ) → steps_length (half_sums (suc n) x (suc n)) ≡ 6 * n + 3
+unfolding ripple
+whole-length x n =
+    let past : suc n ≤ suc n = omega arith in
+    rw (steps_length-append (half_sums (suc n) x n) (digit (suc n) (x ∷ carry_row ∷ []) half_digits half_carries carry_row result_row n), half-length (suc n) x n (omega arith), le-ltb (suc n) (suc n) past) (omega arith)
+
+first-length : (inputs on : List ℕ) → 0 < length on → step_length (above inputs on carry_row 0 0) ≡ length on + 1
+first-length inputs [] some = absurd (omega arith)
+first-length inputs (t ∷ ts) some = refl
+
+pub increment-length : (w x : ℕ) (inputs on : List ℕ) → 0 < w → 0 < length on → steps_length (increment w x inputs on) ≡ 6 * w + 2 + length on
+unfolding increment
+increment-length zero x inputs on pos some = absurd (omega arith)
+increment-length (suc n) x inputs on pos some = rw (first-length inputs on some, whole-length x n) (omega arith)
+
+ripple-rows : (w x n : ℕ) → RowsFit (half_sums w x n)
+unfolding ripple
+ripple-rows w x zero = tt
+ripple-rows w x (suc n) = RowsFit-append (half_sums w x n) (digit w (x ∷ carry_row ∷ []) half_digits half_carries carry_row result_row n) (ripple-rows w x n) (omega arith, omega arith, carries-rows (ltb (suc n) w))
+  where
+    carries-rows : (b : Bool) → RowsFit (cond b (above (x ∷ carry_row ∷ []) half_carries carry_row n 1 ∷ []) [])
+    carries-rows true = (omega arith, omega arith, tt)
+    carries-rows false = tt
+
+pub increment-rows : (w x : ℕ) (inputs on : List ℕ) → RowsFit (increment w x inputs on)
+unfolding increment
+increment-rows w x inputs on = (omega arith, omega arith, (omega arith, omega arith, (omega arith, omega arith, ripple-rows w x w)))
 
 -- ---- how it is written
 
