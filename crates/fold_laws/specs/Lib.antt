@@ -1,0 +1,2 @@
+-- Folds over the numbers below another.
+pub mod Folds
