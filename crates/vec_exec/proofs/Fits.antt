@@ -11,7 +11,7 @@ use Rattle.rvv_decode.specs.declared.instruction.VOp.TheVariants.{Opi, Opm, Conf
 use Rattle.vtype_cfg.specs.Classes.{Class, class_of, opi_class, opm_class, compare, narrowing}
 use Rattle.bit_laws.specs.Numbers.{low}
 use Rattle.bit_laws.specs.Signed.{signed}
-use Rattle.gen_shift.specs.Kinds as shifts
+use Rattle.bit_laws.specs.Rounding as rounding
 use Rattle.rvv_meaning.specs.Operations.{low_int, log2, Operation, operation_for}
 use Rattle.rvv_meaning.specs.Vectors.{is_built}
 use Rattle.frame_meaning.specs.declared.Order.{Order}
@@ -125,7 +125,7 @@ FitsIf op (Some r) None = ⊥
 FitsIf op None (Some o) = ⊥
 
 -- what is left of a number with a sign, in the words of the list and of the meaning
-same-low : (w : ℕ) (z : ℤ) → shifts.low_int w z ≡ low_int w z
+same-low : (w : ℕ) (z : ℤ) → rounding.low_int w z ≡ low_int w z
 same-low w (pos n) = refl
 same-low w (negsuc n) = refl
 
