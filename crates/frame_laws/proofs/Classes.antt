@@ -2,6 +2,7 @@
 pub mod Operands
 pub mod Spreading
 pub mod Plain
+pub mod PlainClips
 pub mod Halves
 pub mod Halved
 pub mod Compared

@@ -1,5 +1,5 @@
 // The laws of the classes of vector instructions, by the operands that they read.
-ghost use Rattle.frame_laws.specs.Classes.Plain.{PlainLaw, PlainBytesLaw};
+ghost use Rattle.frame_laws.specs.Classes.Plain.{PlainLaw, PlainBytesLaw, PlainClipLaw};
 ghost use Rattle.frame_laws.specs.Classes.Compared.{ComparedBytesLaw};
 ghost use Rattle.frame_laws.specs.Classes.Halved.{HalvedLaw, HalvedBytesLaw};
 
@@ -11,6 +11,11 @@ pub fn plain_law()
 /// The same on registers that are lists of bytes.
 pub fn plain_bytes_law()
     ensures law { PlainBytesLaw }
+{}
+
+/// Its program sets the flag exactly where an active element is clipped.
+pub fn plain_clip_law()
+    ensures law { PlainClipLaw }
 {}
 
 /// The program of an instruction that makes a mask from two operands leaves the registers of its meaning.
