@@ -2,6 +2,7 @@
 //! registers that they mean. It holds no code that runs; each function here is a law.
 #![tactic(auto)]
 
+ghost use Rattle.frame_meaning.specs.Clips.{ElementsClipLaw};
 ghost use Rattle.frame_meaning.specs.Costs.{ElementsCostLaw};
 ghost use Rattle.frame_meaning.specs.Laws.{MeaningLaw, MaskMeaningLaw, ElementsMeaningLaw};
 ghost use Rattle.frame_meaning.specs.Halves.{HalvesMeaningLaw, HalvesCostLaw};
@@ -52,6 +53,11 @@ pub fn mask_meaning_law()
 /// means.
 pub fn elements_meaning_law()
     ensures law { ElementsMeaningLaw }
+{}
+
+/// It sets the flag of clipped results where the instruction clips an active element.
+pub fn elements_clip_law()
+    ensures law { ElementsClipLaw }
 {}
 
 /// What the program of such an instruction costs, and that a chain can run it.
