@@ -5,4 +5,5 @@ pub mod Plain
 pub mod PlainClips
 pub mod Halves
 pub mod Halved
+pub mod HalvedClips
 pub mod Compared

@@ -41,11 +41,11 @@ active-within i b mask e bounded =
     core false false x = refl
 
 -- a test of active elements alone counts below the length alone
-where_active : (w x y : Bool) → (w ≡ true → x ≡ y) → (w && x) ≡ (w && y)
+pub where_active : (w x y : Bool) → (w ≡ true → x ≡ y) → (w && x) ≡ (w && y)
 where_active true x y same = same refl
 where_active false x y same = refl
 
-within-len : (from len : ℕ) (masked : Bool) (mask : ℕ → Bool) (e : ℕ) → is_within from len masked mask e ≡ true → e < len
+pub within-len : (from len : ℕ) (masked : Bool) (mask : ℕ → Bool) (e : ℕ) → is_within from len masked mask e ≡ true → e < len
 within-len from len masked mask e t = ltb-true e len (and_parts (leb from e) (ltb e len) (and_parts (leb from e && ltb e len) (not masked || mask e) t).0).1
 
 -- so many elements make a register

@@ -1,7 +1,7 @@
 // The laws of the classes of vector instructions, by the operands that they read.
 ghost use Rattle.frame_laws.specs.Classes.Plain.{PlainLaw, PlainBytesLaw, PlainClipLaw};
 ghost use Rattle.frame_laws.specs.Classes.Compared.{ComparedBytesLaw};
-ghost use Rattle.frame_laws.specs.Classes.Halved.{HalvedLaw, HalvedBytesLaw};
+ghost use Rattle.frame_laws.specs.Classes.Halved.{HalvedLaw, HalvedBytesLaw, HalvedClipLaw};
 
 /// The program of an instruction on elements at the same place, as wide or narrower, leaves the registers of its meaning.
 pub fn plain_law()
@@ -32,4 +32,9 @@ pub fn halved_law()
 /// The same on registers that are lists of bytes.
 pub fn halved_bytes_law()
     ensures law { HalvedBytesLaw }
+{}
+
+/// Its program sets the flag exactly where an active element is clipped.
+pub fn halved_clip_law()
+    ensures law { HalvedClipLaw }
 {}
