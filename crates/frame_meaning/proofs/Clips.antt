@@ -19,12 +19,16 @@ use Rattle.frame_laws.specs.Meaning.{place_in}
 use Rattle.frame_laws.specs.Classes.Operands.{operand_of}
 use Rattle.frame_laws.specs.Classes.Plain.{plain_clip, plain_value}
 use Rattle.frame_laws.proofs.Classes.Operands.{whole-register}
+use Rattle.frame_laws.specs.Classes.Halved.{half_clip}
 use Rattle.frame_laws.proofs.Classes.PlainClips.{plain_clip_law}
+use Rattle.frame_laws.proofs.Classes.HalvedClips.{halved_clip_law}
 use Rattle.frame_meaning.specs.declared.Order.{Order}
 use Rattle.frame_meaning.specs.declared.Order.TheVariants.{Straight, Reversed, Second, Exchanged, Widening, WideSource, Half, Quarter}
 use Rattle.frame_meaning.specs.Shapes.{signs_of, scalar_of, width_in, count_in, operands_in, value_by, value_in, elements_in, shape_in, program_in}
 use Rattle.frame_meaning.specs.Laws.{Ignores}
-use Rattle.frame_meaning.specs.Clips.{flag_of, clips_by, clips_in, ElementsClipLaw}
+use Rattle.frame_meaning.specs.Halves.{half_count, half_operands, half_value_in, half_elements, half_shape, half_program_in, IsOfHalves}
+use Rattle.frame_meaning.specs.Clips.{flag_of, clips_by, clips_in, half_clips_in, ElementsClipLaw, HalvesClipLaw}
+use Rattle.frame_meaning.proofs.Halves as halves
 use Rattle.frame_meaning.proofs.Instructions.{facts-of, is-plain, bounded, values, elements-are}
 use Rattle.frame_meaning.proofs.OperandWidths.{width-of}
 
@@ -120,3 +124,29 @@ elements_clip_law order o i c x body s ignores unmasked runs short class is tell
     ap (λ (t : Bool). is_active (place_in sh (mask_bit_of v 0) e) && t) (flags order o i c x v e ignores unmasked least runs.immediate))
     ∙ any-active c (elements_in order i c x o) v (count_in order c.vtype * (c.vlen / width_in order c.vtype.sew)) (omega arith)
     ∙ ap (λ (e : Elementwise). clips_elements c e v) (elements-are order o i c x class)
+
+-- ---- elements half as wide as those of the first operand
+
+-- the flag of the operands that stand in the rows is that of the operands of the meaning
+half-flags : (o : Operation) (i : VInstr) (c : Cfg) (x : ℕ) (v : List (List ℕ)) (e : ℕ) → IsOfHalves (flag_of o) → 8 ≤ c.vtype.sew → i.vs1 < 32
+    → half_clip (half_shape i c x o) (half_operands i c.vtype.sew) (half_clips_in c o) v e ≡ (half_elements i c x o).clipped v e
+unfolding half_shape half_elements elements_at
+half-flags o i c x v e of least small = from_bool-same _ _ (halves.value-here (flag_of o) i c x v e of least small)
+
+pub halves_clip_law : HalvesClipLaw
+unfolding half_program_in half_shape half_elements elements_at
+halves_clip_law o i c x lists s of flag runs short class leave tells =
+    let v = registers_of s in
+    let sh = half_shape i c x o in
+    let sew = c.vtype.sew in
+    let facts = halves.half-facts i c s runs class in
+    let w = width-of sew facts.sew in
+    let least : 8 ≤ c.vtype.sew = w.least in
+    let all = registers_for c.vtype sew * (c.vlen / sew) in
+    let whole = whole-register sew c.vlen s.columns (omega arith) w.lanes runs.long in
+    let held : vlmax c.vtype c.vlen ≤ registers_for c.vtype c.vtype.sew * (c.vlen / c.vtype.sew) = vlmax-held_at c.vtype sew c.vlen facts.sew runs.setting facts.vill whole in
+    halved_clip_law sh (usual_bounds sh) (half_operands i sew) (half_value_in c o) (half_clips_in c o) lists (half_count c.vtype) s (halves.halved o i c x s of runs short class) (halves.bounded o i c x) leave tells runs.some
+    ∙ any-same all _ (λ e. is_active (place c (half_elements i c x o) v e) && (half_elements i c x o).clipped v e) (λ e l.
+    ap (λ (t : Bool). is_active (place_in sh (mask_bit_of v 0) e) && t) (half-flags o i c x v e flag least runs.immediate))
+    ∙ any-active c (half_elements i c x o) v all (omega arith)
+    ∙ ap (λ (e : Elementwise). clips_elements c e v) (halves.half-elements-are o i c x class)
