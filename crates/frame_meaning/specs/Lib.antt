@@ -5,3 +5,4 @@ pub mod Costs
 pub mod Masks
 pub mod Halves
 pub mod Clips
+pub mod Realising
