@@ -6,7 +6,7 @@ ghost use Rattle.micro_ir.specs.WorkRows.{IsOperandRow};
 ghost use Rattle.vec_exec.specs.declared.recipes.Listed.{Listed};
 ghost use Rattle.rvv_decode.specs.declared.instruction.VOp.TheVariants.{Opi, Opm};
 ghost use Rattle.vec_exec.specs.Recipes as lists;
-ghost use Rattle.vec_exec.specs.Recipes.{recipe_for, list_of, counts_of, length_of, Computes, FitsRows};
+ghost use Rattle.vec_exec.specs.Recipes.{recipe_for, list_of, counts_of, length_of, Computes, TellsClips, FitsRows};
 
 use bit_laws::Width;
 use frame_meaning::{Order, Signs};
@@ -249,7 +249,7 @@ pub(crate) fn makes_halves(list: Listed) -> bool
 
 // Does nothing. It shows that no list is longer at the widths of elements.
 pub(crate) fn list_length_law()
-    ensures { (list : Listed) (w : ℕ) → w ≤ 32 → length_of list w ≤ 30000 }
+    ensures { (list : Listed) (w mode : ℕ) → w ≤ 32 → length_of list w mode ≤ 30000 }
 {
     logic_length_law();
     arith_length_law();
@@ -259,17 +259,19 @@ pub(crate) fn list_length_law()
 }
 
 /// Appends a list.
-#[tactic(auto, unfolding(crate::specs::Recipes::list_of, crate::specs::Recipes::counts_of, crate::specs::Recipes::length_of, crate::specs::Recipes::Computes))]
+#[tactic(auto, unfolding(crate::specs::Recipes::list_of, crate::specs::Recipes::counts_of, crate::specs::Recipes::length_of, crate::specs::Recipes::Computes, crate::specs::Recipes::TellsClips))]
 pub(crate) fn emit_list<W: Width>(list: Listed, at: &Place, buf: &mut MicroBuf)
     requires whole { lists.makes_halves list ≡ false }
     requires rows { FitsRows list at.now.a at.now.b }
     requires addend { IsOperandRow at.now.addend }
     requires to { at.now.to < 32 }
-    requires room { length_of list W.BITS ≤ buf.old.spare }
-    ensures ops { buf.new.ops ≡ buf.old.ops ++ list_of list W.BITS at.now.a at.now.b at.now.addend at.now.to }
-    ensures spare { buf.new.spare + length_of list W.BITS ≡ buf.old.spare }
-    ensures computes { Computes list W.BITS at.now.a at.now.b at.now.addend at.now.to }
-    ensures cost { Measured (counts_of list W.BITS) (length_of list W.BITS) (list_of list W.BITS at.now.a at.now.b at.now.addend at.now.to) }
+    requires room { length_of list W.BITS at.now.mode ≤ buf.old.spare }
+    ensures ops { buf.new.ops ≡ buf.old.ops ++ list_of list W.BITS at.now.mode at.now.a at.now.b at.now.addend at.now.to }
+    ensures spare { buf.new.spare + length_of list W.BITS at.now.mode ≡ buf.old.spare }
+    ensures computes { Computes list W.BITS at.now.mode at.now.a at.now.b at.now.addend at.now.to }
+    ensures tells { TellsClips list W.BITS at.now.mode at.now.a at.now.b at.now.addend at.now.to }
+    ensures cost { Measured (counts_of list W.BITS at.now.mode) (length_of list W.BITS at.now.mode)
+        (list_of list W.BITS at.now.mode at.now.a at.now.b at.now.addend at.now.to) }
 {
     match list {
         Listed::Bits(kind) => emit_logic::<W>(buf, at, kind),

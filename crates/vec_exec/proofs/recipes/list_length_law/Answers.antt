@@ -12,22 +12,22 @@ pub returns : goal.returns
 unfolding length_of
 returns c = few
   where
-    few : (list : Listed) (w : ℕ) → w ≤ 32 → length_of list w ≤ 30000
-    few (Bits kind) w most = omega (arith, c.logic_length_law.ensures kind)
-    few (Sums kind) w most = omega (arith, c.arith_length_law.ensures.sums kind w)
-    few (Truths kind) w most = omega (arith, c.arith_length_law.ensures.truths kind w)
-    few (Choices kind) w most = omega arith
-    few (Shifts kind) w most =
+    few : (list : Listed) (w mode : ℕ) → w ≤ 32 → length_of list w mode ≤ 30000
+    few (Bits kind) w mode most = omega (arith, c.logic_length_law.ensures kind)
+    few (Sums kind) w mode most = omega (arith, c.arith_length_law.ensures.sums kind w)
+    few (Truths kind) w mode most = omega (arith, c.arith_length_law.ensures.truths kind w)
+    few (Choices kind) w mode most = omega arith
+    few (Shifts kind) w mode most =
         let each : 3 * w + 15 ≤ 111 = omega arith in
         let stages : log2 w * (3 * w + 15) ≤ 5 * 111 = mul-le (log2 w) (3 * w + 15) 5 111 (log2-small w) each in
         omega (arith, c.shift_length_law.ensures kind w (log2 w))
-    few (Products kind) w most =
+    few (Products kind) w mode most =
         let each : 20 * w + 61 ≤ 701 = omega arith in
         let rounds : w * (20 * w + 61) ≤ 32 * 701 = mul-le w (20 * w + 61) 32 701 most each in
         omega (arith, rounds, c.product_length_law.ensures kind w)
-    few (Divisions kind) w most =
+    few (Divisions kind) w mode most =
         let each : 14 * w + 75 ≤ 523 = omega arith in
         let rounds : w * (14 * w + 75) ≤ 32 * 523 = mul-le w (14 * w + 75) 32 523 most each in
         omega (arith, rounds, c.division_length_law.ensures kind w)
-    few Copies w most = omega arith
-    few (Halves kind) w most = omega (arith, half-list-few (Halves kind) w refl most)
+    few Copies w mode most = omega arith
+    few (Halves kind) w mode most = omega (arith, half-list-few (Halves kind) w mode refl most)
