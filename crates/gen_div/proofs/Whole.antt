@@ -8,8 +8,8 @@ use Rattle.std.proofs.lemmas.Int.{ints}
 use Rattle.std.proofs.lemmas.Nat.{pow_pos}
 use Rattle.bit_laws.specs.Numbers.{low}
 use Rattle.bit_laws.specs.Signed.{signed}
-use Rattle.gen_shift.specs.Kinds.{low_int}
-use Rattle.gen_shift.proofs.Ints.{int-low}
+use Rattle.bit_laws.specs.Rounding.{low_int}
+use Rattle.bit_laws.proofs.Ints.{int-low}
 use Rattle.row_sums.proofs.Numbers.{negative, low-shift}
 use Rattle.gen_div.specs.Kinds.{signed_quotient_of, signed_remainder}
 use Rattle.gen_div.proofs.Negatives.{signed_by, magnitude, quotient_negative}

@@ -6,7 +6,7 @@ use Rattle.micro_ir.specs.Measures.{counts}
 use Rattle.micro_ir.specs.Steps.{micros}
 use Rattle.micro_ir.specs.declared.op.MicroOp.{MicroOp}
 use Rattle.micro_ir.specs.declared.place.Place.{Place}
-use Rattle.gen_shift.specs.Kinds.{low_int}
+use Rattle.bit_laws.specs.Rounding.{low_int}
 use Rattle.gen_div.specs.declared.kinds.Division.{Division}
 use Rattle.gen_div.specs.declared.kinds.Division.TheVariants.{Divu, Remu, Div, Rem}
 use Rattle.gen_div.specs.Lists.{division_steps}

@@ -9,7 +9,7 @@ use Rattle.micro_ir.specs.WorkRows.{IsOperandRow, scalar_row}
 use Rattle.micro_ir.specs.declared.place.Place.{Place}
 use Rattle.micro_ir.proofs.StepLists.{steps_on-append, AllFit-append}
 use Rattle.gen_shift.specs.Rows.{is_odd, is_among}
-use Rattle.gen_shift.proofs.Ints.{int-low}
+use Rattle.bit_laws.proofs.Ints.{int-low}
 use Rattle.gen_shift.proofs.Stays.{within-append}
 use Rattle.row_sums.specs.Sums.{total_row, half_after}
 use Rattle.row_sums.proofs.Kept.{operand-off, role-past}

@@ -8,7 +8,7 @@ use Rattle.micro_ir.specs.Measures.{counts}
 use Rattle.micro_ir.specs.Steps.{micros}
 use Rattle.micro_ir.specs.declared.op.MicroOp.{MicroOp}
 use Rattle.micro_ir.specs.declared.place.Place.{Place}
-use Rattle.gen_shift.specs.Kinds.{low_int}
+use Rattle.bit_laws.specs.Rounding.{low_int}
 use Rattle.gen_mul.specs.declared.kinds.Product.{Product}
 use Rattle.gen_mul.specs.declared.kinds.Product.TheVariants.{Mul, Mulhu, Mulhsu, Mulh, Macc, Nmsac}
 use Rattle.gen_mul.specs.Lists.{product_steps}

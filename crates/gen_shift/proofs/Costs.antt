@@ -1,7 +1,8 @@
 -- What the lists of shifts cost, and how long they are.
 use Rattle.std.proofs.Common.{◌≡◌, ℕ, ◌+◌, ◌-◌, ◌*◌, ◌^◌, ◌<◌, ◌≤◌, Bool, true, false, not, List, [], ◌∷◌, ◌++◌, zero, suc, refl, sym, ◌∙◌, ap, arith}
 use Rattle.std.proofs.lemmas.Nat.{pow_pos}
-use Rattle.std.proofs.Math.Nat.{pow-suc}
+use Rattle.std.proofs.Math.Nat.{pow-suc, mul-le-mul_right}
+use Rattle.std.proofs.Math.Pow.{pow_mono}
 use Rattle.cam_chain.specs.declared.counts.Counts.{Counts}
 use Rattle.micro_ir.specs.Replay.{counts_and}
 use Rattle.micro_ir.specs.Steps.{Step, micros}
@@ -13,14 +14,15 @@ use Rattle.micro_ir.proofs.Effects.{ups-counts, downs-counts, broadcast-tally, b
 use Rattle.gen_shift.specs.declared.kinds.Shift.{Shift}
 use Rattle.gen_shift.specs.declared.kinds.Shift.TheVariants.{Sll, Srl, Sra}
 use Rattle.gen_shift.specs.Rows.{moved_row, sign_row, shift_role, shifted_row, is_odd}
-use Rattle.gen_shift.specs.Lists.{goes_up, slide, filling, merging, stage, stages, signing, shifting, shift_steps}
-use Rattle.gen_shift.specs.Kinds.{shift_counts, shift_length, raw_counts, raw_length, sign_length, fill_length, stage_length}
+use Rattle.gen_shift.specs.Lists.{goes_up, slide, filling, merging, keeping, stage, stages, signing, starting, shifting, shift_steps}
+use Rattle.gen_shift.specs.Kinds.{shift_counts, shift_length, raw_counts, raw_length, sign_length, fill_length, stage_length, start_length, out_length, out_lengths, stages_length, shifting_length}
+use Rattle.gen_shift.proofs.OutCosts.{start_count, starting-counts, starting-length, starting-rows, out_count, out_passes, out_counts, all_passes, counts-next, passes-next, keeping-counts, keeping-length, keeping-rows}
 use Rattle.gen_shift.proofs.Barrel.{below-power}
 
 counts-same : (a b c x y z : ℕ) → a ≡ x → b ≡ y → c ≡ z → counts a b c ≡ counts x y z
 counts-same a b c x y z p q r = λ i. counts (p i) (q i) (r i)
 
-counts-add : (x y : Counts) (a b c d e f : ℕ) → x ≡ counts a b c → y ≡ counts d e f → counts_and x y ≡ counts (a + d) (b + e) (c + f)
+pub counts-add : (x y : Counts) (a b c d e f : ℕ) → x ≡ counts a b c → y ≡ counts d e f → counts_and x y ≡ counts (a + d) (b + e) (c + f)
 counts-add x y a b c d e f p q = rw (p, q) refl
 
 -- ---- counts
@@ -34,24 +36,36 @@ fill_count Sra = 1
 fill_count _ = 0
 
 -- a stage after its broadcast
-abbrev after_broadcast : Shift → (w : ℕ) (p : Bool) (h : ℕ) → List Step
-after_broadcast kind w p h = clear w moved_row ∷ slide w (goes_up kind) (shift_role p) moved_row h ∷ (filling kind w h ++ (clear w (shift_role (not p)) ∷ merging w p ∷ []))
+abbrev after_broadcast : Shift → (keeps : Bool) (w : ℕ) (p : Bool) (h : ℕ) → List Step
+after_broadcast kind keeps w p h =
+    clear w moved_row ∷ slide w (goes_up kind) (shift_role p) moved_row h ∷ (filling kind w h ++ (clear w (shift_role (not p)) ∷ (keeping keeps w p h ++ merging w p ∷ [])))
 
-after-counts : (kind : Shift) (w : ℕ) (p : Bool) (h : ℕ) → steps_counts (after_broadcast kind w p h) ≡ counts (7 + fill_count kind) (4 + fill_count kind) h
-after-counts Sll w p h = counts-same _ _ _ _ _ _ (omega arith) (omega arith) (omega arith)
-after-counts Srl w p h = counts-same _ _ _ _ _ _ (omega arith) (omega arith) (omega arith)
-after-counts Sra w p h = counts-same _ _ _ _ _ _ (omega arith) (omega arith) (omega arith)
+-- what follows the bits that go out
+out-merged : (keeps : Bool) (w : ℕ) (p : Bool) (h : ℕ) → 0 < h
+    → steps_counts (keeping keeps w p h ++ merging w p ∷ []) ≡ counts (out_count keeps h + 4) (out_count keeps h + 1) (out_passes keeps h)
+out-merged keeps w p h some =
+    steps_counts-append (keeping keeps w p h) (merging w p ∷ []) ∙ rw (keeping-counts keeps w p h some) (counts-same _ _ _ _ _ _ (omega arith) (omega arith) (omega arith))
 
-stage-counts : (kind : Shift) (w b : ℕ) (p : Bool) (j h : ℕ) → j < w → steps_counts (stage kind w b p j h) ≡ counts (w + 8 + fill_count kind) (w + 5 + fill_count kind) (w - 1 + h)
+after-counts : (kind : Shift) (keeps : Bool) (w : ℕ) (p : Bool) (h : ℕ) → 0 < h
+    → steps_counts (after_broadcast kind keeps w p h) ≡ counts (7 + fill_count kind + out_count keeps h) (4 + fill_count kind + out_count keeps h) (h + out_passes keeps h)
+after-counts Sll keeps w p h some = rw (out-merged keeps w p h some) (counts-same _ _ _ _ _ _ (omega arith) (omega arith) (omega arith))
+after-counts Srl keeps w p h some = rw (out-merged keeps w p h some) (counts-same _ _ _ _ _ _ (omega arith) (omega arith) (omega arith))
+after-counts Sra keeps w p h some = rw (out-merged keeps w p h some) (counts-same _ _ _ _ _ _ (omega arith) (omega arith) (omega arith))
+
+stage-counts : (kind : Shift) (keeps : Bool) (w b : ℕ) (p : Bool) (j h : ℕ) → j < w → 0 < h
+    → steps_counts (stage kind keeps w b p j h) ≡ counts (w + 8 + fill_count kind + out_count keeps h) (w + 5 + fill_count kind + out_count keeps h) (w - 1 + h + out_passes keeps h)
 unfolding stage
-stage-counts kind w b p j h low =
-    steps_counts-append (broadcast w b j) (after_broadcast kind w p h)
-    ∙ counts-add _ _ _ _ _ _ _ _ (broadcast-counts w b j low) (after-counts kind w p h)
+stage-counts kind keeps w b p j h low some =
+    steps_counts-append (broadcast w b j) (after_broadcast kind keeps w p h)
+    ∙ counts-add _ _ _ _ _ _ _ _ (broadcast-counts w b j low) (after-counts kind keeps w p h some)
     ∙ counts-same _ _ _ _ _ _ (omega arith) (omega arith) (omega arith)
 
 -- the passes of one stage more, and of the sign
-more-passes : (n m p q : ℕ) → q ≡ p * 2 → 0 < p → n * m + (p - 1) + (m + p) ≡ suc n * m + (q - 1)
-more-passes n m p q d some = omega (arith, d, some)
+more-passes : (n m p q x y z : ℕ) → q ≡ p * 2 → 0 < p → z ≡ x + y → (n * m + (p - 1) + x) + (m + p + y) ≡ suc n * m + (q - 1) + z
+more-passes n m p q x y z d some e = omega (arith, d, some, e)
+
+more-count : (n m x y z : ℕ) → z ≡ x + y → (n * m + x) + (m + y) ≡ suc n * m + z
+more-count n m x y z e = omega (arith, e)
 
 plain-passes : (l m : ℕ) → 0 + (l * m + m) ≡ (l + 1) * m
 plain-passes l m = omega arith
@@ -59,19 +73,24 @@ plain-passes l m = omega arith
 signed-passes : (l m : ℕ) → m + (l * m + m) ≡ (l + 2) * m
 signed-passes l m = omega arith
 
-stages-counts : (kind : Shift) (w b n : ℕ) → 2 ^ n ≤ w
-    → steps_counts (stages kind w b n) ≡ counts (n * (w + 8 + fill_count kind)) (n * (w + 5 + fill_count kind)) (n * (w - 1) + (2 ^ n - 1))
+stages-counts : (kind : Shift) (keeps : Bool) (w b n : ℕ) → 2 ^ n ≤ w
+    → steps_counts (stages kind keeps w b n)
+    ≡ counts (n * (w + 8 + fill_count kind) + out_counts keeps n) (n * (w + 5 + fill_count kind) + out_counts keeps n) (n * (w - 1) + (2 ^ n - 1) + all_passes keeps n)
 unfolding stages
-stages-counts kind w b zero room = counts-same 0 0 0 _ _ _ (omega arith) (omega arith) (omega arith)
-stages-counts kind w b (suc n) room =
+stages-counts kind true w b zero room = counts-same 0 0 0 _ _ _ (omega arith) (omega arith) (omega arith)
+stages-counts kind false w b zero room = counts-same 0 0 0 _ _ _ (omega arith) (omega arith) (omega arith)
+stages-counts kind keeps w b (suc n) room =
     let d : 2 ^ suc n ≡ 2 ^ n * 2 = pow-suc 2 n in
     let some : 0 < 2 ^ n = pow_pos n in
     let small : n < 2 ^ n = below-power n in
     let half : 2 ^ n ≤ w = omega (arith, d, room) in
     let inside : n < w = omega arith in
-    steps_counts-append (stages kind w b n) (stage kind w b (is_odd n) n (2 ^ n))
-    ∙ counts-add _ _ _ _ _ _ _ _ (stages-counts kind w b n half) (stage-counts kind w b (is_odd n) n (2 ^ n) inside)
-    ∙ counts-same _ _ _ _ _ _ (omega arith) (omega arith) (more-passes n (w - 1) (2 ^ n) (2 ^ suc n) d some)
+    let more = counts-next keeps n in
+    steps_counts-append (stages kind keeps w b n) (stage kind keeps w b (is_odd n) n (2 ^ n))
+    ∙ counts-add _ _ _ _ _ _ _ _ (stages-counts kind keeps w b n half) (stage-counts kind keeps w b (is_odd n) n (2 ^ n) inside some)
+    ∙ counts-same _ _ _ _ _ _ (more-count n (w + 8 + fill_count kind) (out_counts keeps n) (out_count keeps (2 ^ n)) (out_counts keeps (suc n)) more)
+    (more-count n (w + 5 + fill_count kind) (out_counts keeps n) (out_count keeps (2 ^ n)) (out_counts keeps (suc n)) more)
+    (more-passes n (w - 1) (2 ^ n) (2 ^ suc n) (all_passes keeps n) (out_passes keeps (2 ^ n)) (all_passes keeps (suc n)) d some (passes-next keeps n))
 
 -- the searches, the updates and the passes that the sign takes before the stages
 abbrev sign_count : Shift → (w : ℕ) → ℕ
@@ -87,21 +106,33 @@ signing-counts Sll w a some = refl
 signing-counts Srl w a some = refl
 signing-counts Sra w a some = rw (downs-counts sign_row (w - 1)) (counts-same _ _ _ _ _ _ (omega arith) (omega arith) (omega arith))
 
-whole-counts : (kind : Shift) (w l a b : ℕ) → w ≡ 2 ^ l
-    → steps_counts (shifting kind w l a b)
-    ≡ counts (sign_count kind w + (2 + l * (w + 8 + fill_count kind))) (sign_count kind w + (2 + l * (w + 5 + fill_count kind))) (sign_passes kind w + (l * (w - 1) + (w - 1)))
+whole-counts : (kind : Shift) (keeps : Bool) (w l a b : ℕ) → w ≡ 2 ^ l
+    → steps_counts (shifting kind keeps w l a b)
+    ≡ counts (sign_count kind w + (2 + l * (w + 8 + fill_count kind)) + (start_count keeps + out_counts keeps l))
+    (sign_count kind w + (2 + l * (w + 5 + fill_count kind)) + (start_count keeps + out_counts keeps l))
+    (sign_passes kind w + (l * (w - 1) + (w - 1)) + all_passes keeps l)
 unfolding shifting
-whole-counts kind w l a b is =
+whole-counts kind keeps w l a b is =
     let some : 0 < w = let p : 0 < 2 ^ l = pow_pos l in omega arith in
     let first : List Step = clear w (shift_role false) ∷ everywhere w (a ∷ []) (1 ∷ []) (shift_role false) true ∷ [] in
-    steps_counts-append (signing kind w a) (first ++ stages kind w b l)
-    ∙ counts-add _ _ _ _ _ _ _ _ (signing-counts kind w a some) (steps_counts-append first (stages kind w b l) ∙ counts-add _ _ 2 2 0 _ _ _ refl (stages-counts kind w b l (omega arith)))
+    steps_counts-append (starting keeps w) (signing kind w a ++ (first ++ stages kind keeps w b l))
+    ∙ counts-add _ _ _ _ _ _ _ _ (starting-counts keeps w)
+    (steps_counts-append (signing kind w a) (first ++ stages kind keeps w b l)
+    ∙ counts-add _ _ _ _ _ _ _ _ (signing-counts kind w a some) (steps_counts-append first (stages kind keeps w b l) ∙ counts-add _ _ 2 2 0 _ _ _ refl (stages-counts kind keeps w b l (omega arith))))
     ∙ counts-same _ _ _ _ _ _ (omega arith) (omega arith) (omega (arith, is))
 
-raw-counts : (kind : Shift) (w l a b : ℕ) → w ≡ 2 ^ l → steps_counts (shifting kind w l a b) ≡ raw_counts kind w l
-raw-counts Sll w l a b is = whole-counts Sll w l a b is ∙ counts-same _ _ _ _ _ _ (omega arith) (omega arith) (plain-passes l (w - 1))
-raw-counts Srl w l a b is = whole-counts Srl w l a b is ∙ counts-same _ _ _ _ _ _ (omega arith) (omega arith) (plain-passes l (w - 1))
-raw-counts Sra w l a b is = whole-counts Sra w l a b is ∙ counts-same _ _ _ _ _ _ (omega arith) (omega arith) (signed-passes l (w - 1))
+-- beside those that keep nothing
+pub shifting-counts : (kind : Shift) (keeps : Bool) (w l a b : ℕ) → w ≡ 2 ^ l
+    → steps_counts (shifting kind keeps w l a b) ≡ counts_and (raw_counts kind w l) (counts (start_count keeps + out_counts keeps l) (start_count keeps + out_counts keeps l) (all_passes keeps l))
+shifting-counts Sll keeps w l a b is =
+    whole-counts Sll keeps w l a b is ∙ counts-same _ _ _ _ _ _ (omega arith) (omega arith) (let h = plain-passes l (w - 1) in omega (arith, h))
+shifting-counts Srl keeps w l a b is =
+    whole-counts Srl keeps w l a b is ∙ counts-same _ _ _ _ _ _ (omega arith) (omega arith) (let h = plain-passes l (w - 1) in omega (arith, h))
+shifting-counts Sra keeps w l a b is =
+    whole-counts Sra keeps w l a b is ∙ counts-same _ _ _ _ _ _ (omega arith) (omega arith) (let h = signed-passes l (w - 1) in omega (arith, h))
+
+pub raw-counts : (kind : Shift) (w l a b : ℕ) → w ≡ 2 ^ l → steps_counts (shifting kind false w l a b) ≡ raw_counts kind w l
+raw-counts kind w l a b is = shifting-counts kind false w l a b is ∙ counts-same _ _ _ _ _ _ (omega arith) (omega arith) (omega arith)
 
 -- ---- lengths
 
@@ -112,27 +143,50 @@ pass-one : (h : ℕ) → 0 < h → pass_length h ≡ 1
 pass-one zero some = absurd (omega arith)
 pass-one (suc h) some = refl
 
-after-length : (kind : Shift) (w : ℕ) (p : Bool) (h : ℕ) → 0 < h → steps_length (after_broadcast kind w p h) ≡ 12 + fill_length kind
-after-length Sll w p h some = rw (pass-one h some) (omega arith)
-after-length Srl w p h some = rw (pass-one h some) (omega arith)
-after-length Sra w p h some = rw (pass-one h some) (omega arith)
+out-length : (keeps : Bool) (w : ℕ) (p : Bool) (h : ℕ) → 0 < h → steps_length (keeping keeps w p h ++ merging w p ∷ []) ≡ out_length keeps h + 5
+out-length keeps w p h some = steps_length-append (keeping keeps w p h) (merging w p ∷ []) ∙ rw (keeping-length keeps w p h some) (omega arith)
 
-stage-steps : (kind : Shift) (w b : ℕ) (p : Bool) (j h : ℕ) → j < w → 0 < h → steps_length (stage kind w b p j h) ≡ stage_length kind w
+after-length : (kind : Shift) (keeps : Bool) (w : ℕ) (p : Bool) (h : ℕ) → 0 < h → steps_length (after_broadcast kind keeps w p h) ≡ 12 + fill_length kind + out_length keeps h
+after-length Sll keeps w p h some = rw (pass-one h some, out-length keeps w p h some) (omega arith)
+after-length Srl keeps w p h some = rw (pass-one h some, out-length keeps w p h some) (omega arith)
+after-length Sra keeps w p h some = rw (pass-one h some, out-length keeps w p h some) (omega arith)
+
+stage-steps : (kind : Shift) (keeps : Bool) (w b : ℕ) (p : Bool) (j h : ℕ) → j < w → 0 < h → steps_length (stage kind keeps w b p j h) ≡ stage_length kind w + out_length keeps h
 unfolding stage
-stage-steps kind w b p j h low some =
-    steps_length-append (broadcast w b j) (after_broadcast kind w p h) ∙ rw (broadcast-steps w b j low, after-length kind w p h some) (omega arith)
+stage-steps kind keeps w b p j h low some =
+    steps_length-append (broadcast w b j) (after_broadcast kind keeps w p h) ∙ rw (broadcast-steps w b j low, after-length kind keeps w p h some) (omega arith)
 
-stages-steps : (kind : Shift) (w b n : ℕ) → 2 ^ n ≤ w → steps_length (stages kind w b n) ≡ n * stage_length kind w
+-- no stage, and one more
+pub lengths-none : (kind : Shift) (keeps : Bool) (w : ℕ) → stages_length kind keeps w 0 ≡ 0
+lengths-none kind true w = omega arith
+lengths-none kind false w = omega arith
+
+pub lengths-next : (kind : Shift) (keeps : Bool) (w n : ℕ) → stages_length kind keeps w (suc n) ≡ stages_length kind keeps w n + (stage_length kind w + out_length keeps (2 ^ n))
+lengths-next kind true w n =
+    let d : 2 ^ suc n ≡ 2 ^ n * 2 = pow-suc 2 n in
+    let some : 0 < 2 ^ n = pow_pos n in
+    omega (arith, d, some)
+lengths-next kind false w n = omega arith
+
+-- fewer stages take no more
+pub lengths-most : (kind : Shift) (keeps : Bool) (w m n : ℕ) → m ≤ n → stages_length kind keeps w m ≤ stages_length kind keeps w n
+lengths-most kind keeps w m n few = by (stage_length kind w) keeps (pow_mono {i = m} {j = n} few)
+  where
+    by : (each : ℕ) (keeps : Bool) → 2 ^ m ≤ 2 ^ n → m * each + out_lengths keeps m ≤ n * each + out_lengths keeps n
+    by each true power = let h : m * each ≤ n * each = mul-le-mul_right each few in omega (arith, h, power, few)
+    by each false power = let h : m * each ≤ n * each = mul-le-mul_right each few in omega (arith, h)
+
+stages-steps : (kind : Shift) (keeps : Bool) (w b n : ℕ) → 2 ^ n ≤ w → steps_length (stages kind keeps w b n) ≡ stages_length kind keeps w n
 unfolding stages
-stages-steps kind w b zero room = omega arith
-stages-steps kind w b (suc n) room =
+stages-steps kind keeps w b zero room = sym (lengths-none kind keeps w)
+stages-steps kind keeps w b (suc n) room =
     let d : 2 ^ suc n ≡ 2 ^ n * 2 = pow-suc 2 n in
     let some : 0 < 2 ^ n = pow_pos n in
     let small : n < 2 ^ n = below-power n in
     let half : 2 ^ n ≤ w = omega (arith, d, room) in
     let inside : n < w = omega arith in
-    steps_length-append (stages kind w b n) (stage kind w b (is_odd n) n (2 ^ n))
-    ∙ rw (stages-steps kind w b n half, stage-steps kind w b (is_odd n) n (2 ^ n) inside some) (omega arith)
+    steps_length-append (stages kind keeps w b n) (stage kind keeps w b (is_odd n) n (2 ^ n))
+    ∙ rw (stages-steps kind keeps w b n half, stage-steps kind keeps w b (is_odd n) n (2 ^ n) inside some) (sym (lengths-next kind keeps w n))
 
 downs-steps : (row n : ℕ) → steps_length (downs row n) ≡ 3 * n
 unfolding downs
@@ -144,19 +198,23 @@ signing-steps Sll w a some = refl
 signing-steps Srl w a some = refl
 signing-steps Sra w a some = rw (downs-steps sign_row (w - 1)) (omega arith)
 
-whole-steps : (kind : Shift) (w l a b : ℕ) → w ≡ 2 ^ l → steps_length (shifting kind w l a b) ≡ sign_length kind w + (4 + l * stage_length kind w)
+whole-steps : (kind : Shift) (keeps : Bool) (w l a b : ℕ) → w ≡ 2 ^ l
+    → steps_length (shifting kind keeps w l a b) ≡ start_length keeps + (sign_length kind w + (4 + stages_length kind keeps w l))
 unfolding shifting
-whole-steps kind w l a b is =
+whole-steps kind keeps w l a b is =
     let some : 0 < w = let p : 0 < 2 ^ l = pow_pos l in omega arith in
     let first : List Step = clear w (shift_role false) ∷ everywhere w (a ∷ []) (1 ∷ []) (shift_role false) true ∷ [] in
-    steps_length-append (signing kind w a) (first ++ stages kind w b l)
-    ∙ rw (signing-steps kind w a some, stages-steps kind w b l (omega arith)) (omega arith)
+    steps_length-append (starting keeps w) (signing kind w a ++ (first ++ stages kind keeps w b l))
+    ∙ rw (starting-length keeps w, steps_length-append (signing kind w a) (first ++ stages kind keeps w b l), signing-steps kind w a some, stages-steps kind keeps w b l (omega arith)) (omega arith)
 
 -- the length of a list, part by part
-pub raw-size : (kind : Shift) (w l : ℕ) → sign_length kind w + (4 + l * stage_length kind w) ≡ raw_length kind w l
-raw-size Sll w l = omega arith
-raw-size Srl w l = omega arith
-raw-size Sra w l = omega arith
+pub raw-size : (kind : Shift) (keeps : Bool) (w l : ℕ) → start_length keeps + (sign_length kind w + (4 + stages_length kind keeps w l)) ≡ shifting_length kind keeps w l
+raw-size Sll keeps w l = omega arith
+raw-size Srl keeps w l = omega arith
+raw-size Sra keeps w l = omega arith
+
+pub plain-size : (kind : Shift) (w l : ℕ) → shifting_length kind false w l ≡ raw_length kind w l
+plain-size kind w l = omega arith
 
 pub shift-size : (kind : Shift) (w l : ℕ) → raw_length kind w l + 4 ≡ shift_length kind w l
 shift-size Sll w l = omega arith
@@ -190,45 +248,52 @@ pub role-row : (p : Bool) → shift_role p < 64
 role-row true = omega arith
 role-row false = omega arith
 
-after-rows : (kind : Shift) (w : ℕ) (p : Bool) (h : ℕ) → h ≤ 31 → RowsFit (after_broadcast kind w p h)
-after-rows Sll w p h room = (omega arith, omega arith, (omega arith, room, (role-row (not p), omega arith, (role-row (not p), omega arith, tt))))
-after-rows Srl w p h room = (omega arith, omega arith, (omega arith, room, (role-row (not p), omega arith, (role-row (not p), omega arith, tt))))
-after-rows Sra w p h room = (omega arith, omega arith, (omega arith, room, (omega arith, omega arith, (role-row (not p), omega arith, (role-row (not p), omega arith, tt)))))
+out-rows : (keeps : Bool) (w : ℕ) (p : Bool) (h : ℕ) → h ≤ 31 → RowsFit (keeping keeps w p h ++ merging w p ∷ [])
+out-rows keeps w p h room = RowsFit-append (keeping keeps w p h) (merging w p ∷ []) (keeping-rows keeps w p h room) (role-row (not p), omega arith, tt)
 
-stage-rows : (kind : Shift) (w b : ℕ) (p : Bool) (j h : ℕ) → h ≤ 31 → RowsFit (stage kind w b p j h)
+after-rows : (kind : Shift) (keeps : Bool) (w : ℕ) (p : Bool) (h : ℕ) → h ≤ 31 → RowsFit (after_broadcast kind keeps w p h)
+after-rows Sll keeps w p h room = (omega arith, omega arith, (omega arith, room, (role-row (not p), omega arith, out-rows keeps w p h room)))
+after-rows Srl keeps w p h room = (omega arith, omega arith, (omega arith, room, (role-row (not p), omega arith, out-rows keeps w p h room)))
+after-rows Sra keeps w p h room = (omega arith, omega arith, (omega arith, room, (omega arith, omega arith, (role-row (not p), omega arith, out-rows keeps w p h room))))
+
+stage-rows : (kind : Shift) (keeps : Bool) (w b : ℕ) (p : Bool) (j h : ℕ) → h ≤ 31 → RowsFit (stage kind keeps w b p j h)
 unfolding stage
-stage-rows kind w b p j h room = RowsFit-append (broadcast w b j) (after_broadcast kind w p h) (broadcast-rows w b j) (after-rows kind w p h room)
+stage-rows kind keeps w b p j h room = RowsFit-append (broadcast w b j) (after_broadcast kind keeps w p h) (broadcast-rows w b j) (after-rows kind keeps w p h room)
 
-stages-rows : (kind : Shift) (w b n : ℕ) → 2 ^ n ≤ 32 → RowsFit (stages kind w b n)
+stages-rows : (kind : Shift) (keeps : Bool) (w b n : ℕ) → 2 ^ n ≤ 32 → RowsFit (stages kind keeps w b n)
 unfolding stages
-stages-rows kind w b zero room = tt
-stages-rows kind w b (suc n) room =
+stages-rows kind keeps w b zero room = tt
+stages-rows kind keeps w b (suc n) room =
     let d : 2 ^ suc n ≡ 2 ^ n * 2 = pow-suc 2 n in
     let half : 2 ^ n ≤ 31 = omega (arith, d, room) in
-    RowsFit-append (stages kind w b n) (stage kind w b (is_odd n) n (2 ^ n)) (stages-rows kind w b n (omega arith)) (stage-rows kind w b (is_odd n) n (2 ^ n) half)
+    RowsFit-append (stages kind keeps w b n) (stage kind keeps w b (is_odd n) n (2 ^ n)) (stages-rows kind keeps w b n (omega arith)) (stage-rows kind keeps w b (is_odd n) n (2 ^ n) half)
 
 signing-rows : (kind : Shift) (w a : ℕ) → RowsFit (signing kind w a)
 signing-rows Sll w a = tt
 signing-rows Srl w a = tt
 signing-rows Sra w a = (omega arith, omega arith, (omega arith, omega arith, downs-rows sign_row (w - 1) (omega arith)))
 
-shifting-rows : (kind : Shift) (w l a b : ℕ) → 2 ^ l ≤ 32 → RowsFit (shifting kind w l a b)
+pub shifting-rows : (kind : Shift) (keeps : Bool) (w l a b : ℕ) → 2 ^ l ≤ 32 → RowsFit (shifting kind keeps w l a b)
 unfolding shifting
-shifting-rows kind w l a b room =
-    RowsFit-append (signing kind w a) _ (signing-rows kind w a) (omega arith, omega arith, (omega arith, omega arith, stages-rows kind w b l room))
+shifting-rows kind keeps w l a b room =
+    RowsFit-append (starting keeps w) _ (starting-rows keeps w)
+    (RowsFit-append (signing kind w a) _ (signing-rows kind w a) (omega arith, omega arith, (omega arith, omega arith, stages-rows kind keeps w b l room)))
 
 -- ---- measured
 
-pub raw-measured : (kind : Shift) (w l a b : ℕ) → w ≡ 2 ^ l → w ≤ 32 → Measured (raw_counts kind w l) (raw_length kind w l) (micros w (shifting kind w l a b))
+pub shifting-steps : (kind : Shift) (keeps : Bool) (w l a b : ℕ) → w ≡ 2 ^ l → steps_length (shifting kind keeps w l a b) ≡ shifting_length kind keeps w l
+shifting-steps kind keeps w l a b is = whole-steps kind keeps w l a b is ∙ raw-size kind keeps w l
+
+pub raw-measured : (kind : Shift) (w l a b : ℕ) → w ≡ 2 ^ l → w ≤ 32 → Measured (raw_counts kind w l) (raw_length kind w l) (micros w (shifting kind false w l a b))
 raw-measured kind w l a b is room =
     let few : 2 ^ l ≤ 32 = omega arith in
     record {
-      cost = tally-micros w (shifting kind w l a b) ∙ raw-counts kind w l a b is;
-      count = length-micros w (shifting kind w l a b) ∙ whole-steps kind w l a b is ∙ raw-size kind w l;
-      range = λ columns. AllInRange-micros columns w (shifting kind w l a b) (shifting-rows kind w l a b few);
+      cost = tally-micros w (shifting kind false w l a b) ∙ raw-counts kind w l a b is;
+      count = length-micros w (shifting kind false w l a b) ∙ shifting-steps kind false w l a b is ∙ plain-size kind w l;
+      range = λ columns. AllInRange-micros columns w (shifting kind false w l a b) (shifting-rows kind false w l a b few);
     }
 
-more-counts : (kind : Shift) (w l : ℕ) → counts_and (raw_counts kind w l) (counts 2 2 0) ≡ shift_counts kind w l
+pub more-counts : (kind : Shift) (w l : ℕ) → counts_and (raw_counts kind w l) (counts 2 2 0) ≡ shift_counts kind w l
 more-counts Sll w l = counts-same _ _ _ _ _ _ (omega arith) (omega arith) (omega arith)
 more-counts Srl w l = counts-same _ _ _ _ _ _ (omega arith) (omega arith) (omega arith)
 more-counts Sra w l = counts-same _ _ _ _ _ _ (omega arith) (omega arith) (omega arith)
@@ -237,12 +302,12 @@ pub shift-measured : (kind : Shift) (w l a b to : ℕ) → w ≡ 2 ^ l → w ≤
 unfolding shift_steps
 shift-measured kind w l a b to is room register =
     let few : 2 ^ l ≤ 32 = omega arith in
-    let first = shifting kind w l a b in
+    let first = shifting kind false w l a b in
     let last = commit w (shifted_row l) to in
     record {
       cost = tally-micros w (first ++ last) ∙ steps_counts-append first last ∙ ap (λ (c : Counts). counts_and c (counts 2 2 0)) (raw-counts kind w l a b is) ∙ more-counts kind w l;
-      count = length-micros w (first ++ last) ∙ steps_length-append first last ∙ rw (whole-steps kind w l a b is ∙ raw-size kind w l) (shift-size kind w l);
-      range = λ columns. AllInRange-micros columns w (first ++ last) (RowsFit-append first last (shifting-rows kind w l a b few) (omega arith, omega arith, (omega arith, omega arith, tt)));
+      count = length-micros w (first ++ last) ∙ steps_length-append first last ∙ rw (shifting-steps kind false w l a b is ∙ plain-size kind w l) (shift-size kind w l);
+      range = λ columns. AllInRange-micros columns w (first ++ last) (RowsFit-append first last (shifting-rows kind false w l a b few) (omega arith, omega arith, (omega arith, omega arith, tt)));
     }
 
 -- ---- the extension

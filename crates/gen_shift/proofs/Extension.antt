@@ -6,12 +6,12 @@ use Rattle.std.proofs.Math.Nat.{pow-suc}
 use Rattle.bit_laws.specs.Numbers.{number}
 use Rattle.bit_laws.specs.Signed.{extended}
 use Rattle.bit_laws.proofs.Numbers.{number-lt, number-same, number-cat, bit-number}
+use Rattle.bit_laws.proofs.Ints.{above-none}
 use Rattle.micro_ir.specs.Steps.{steps_on, micros, element}
 use Rattle.micro_ir.proofs.Lift.{micros-element}
 use Rattle.micro_ir.proofs.Effects.{ups-row, ups-else, ups-here, ups-fit}
 use Rattle.gen_shift.specs.Lists.{extension}
 use Rattle.gen_shift.specs.Laws.{Extends, ExtendsSign}
-use Rattle.gen_shift.proofs.Ints.{above-none}
 
 -- the number of bits that are all 1, or all 0
 level-number : (n : ℕ) (s : Bool) → number n (λ j. s) + cond s 1 0 ≡ cond s (2 ^ n) 0

@@ -7,7 +7,7 @@ use Rattle.micro_ir.specs.Pieces.{above, ups, downs, broadcast}
 use Rattle.micro_ir.specs.WorkRows.{IsOperandRow, scalar_row, broadcast_row}
 use Rattle.micro_ir.proofs.OneElement.{step-row}
 use Rattle.micro_ir.specs.Folding.{are_rows}
-use Rattle.gen_shift.specs.Rows.{moved_row, is_among, shift_rows}
+use Rattle.gen_shift.specs.Rows.{moved_row, is_among, work_rows, shift_rows, rounding_rows}
 
 -- each step writes one of the rows
 abbrev pub Within : List ℕ → List Step → Type 0
@@ -55,16 +55,22 @@ free-low (x ∷ xs) r h low =
     (λ (l : x ≤ scalar_row). let no : false ≡ true = rw (le-ltb scalar_row x l) at h in absurd (cc))
     (cases_lt scalar_row x)
 
-pub low-free : (r : ℕ) → r ≤ scalar_row → is_among shift_rows r ≡ false
-low-free r low = free-low shift_rows r refl low
+pub low-free : (keeps : Bool) (r : ℕ) → r ≤ scalar_row → is_among (work_rows keeps) r ≡ false
+low-free true r low = free-low (work_rows true) r refl low
+low-free false r low = free-low (work_rows false) r refl low
+
+pub low-kept : (r : ℕ) → r ≤ scalar_row → is_among rounding_rows r ≡ false
+low-kept r low = free-low rounding_rows r refl low
 
 -- an operand is none of the rows that shifts write
-pub operand-free : (r : ℕ) → IsOperandRow r → is_among shift_rows r ≡ false
-operand-free r (inl is) = low-free r (omega arith)
-operand-free r (inr (inl is)) = low-free r (omega arith)
-operand-free r (inr (inr (inl is))) = low-free r (omega arith)
-operand-free r (inr (inr (inr (inl is)))) = rw is refl
-operand-free r (inr (inr (inr (inr is)))) = rw is refl
+pub operand-free : (keeps : Bool) (r : ℕ) → IsOperandRow r → is_among (work_rows keeps) r ≡ false
+operand-free keeps r (inl is) = low-free keeps r (omega arith)
+operand-free keeps r (inr (inl is)) = low-free keeps r (omega arith)
+operand-free keeps r (inr (inr (inl is))) = low-free keeps r (omega arith)
+operand-free true r (inr (inr (inr (inl is)))) = rw is refl
+operand-free false r (inr (inr (inr (inl is)))) = rw is refl
+operand-free true r (inr (inr (inr (inr is)))) = rw is refl
+operand-free false r (inr (inr (inr (inr is)))) = rw is refl
 
 pub operand-row : (r : ℕ) → IsOperandRow r → r < 64
 operand-row r (inl is) = omega arith
@@ -74,12 +80,15 @@ operand-row r (inr (inr (inr (inl is)))) = omega arith
 operand-row r (inr (inr (inr (inr is)))) = omega arith
 
 pub operand-apart : (r : ℕ) → IsOperandRow r → r ≢ broadcast_row
-operand-apart r is = λ q. let y : true ≡ false = ap (is_among shift_rows) (sym q) ∙ operand-free r is in absurd (cc)
+operand-apart r is = λ q. let y : true ≡ false = ap (is_among shift_rows) (sym q) ∙ operand-free false r is in absurd (cc)
 
 -- ---- rows that a step names
 
 pub one-row : (r : ℕ) → r < 64 → IsTrue (are_rows (r ∷ []))
 one-row r low = rw (lt-ltb r 64 low) refl
+
+pub two-rows : (r : ℕ) → r < 64 → IsTrue (are_rows (broadcast_row ∷ r ∷ []))
+two-rows r low = rw (lt-ltb r 64 low) refl
 
 pub three-rows : (r : ℕ) → r < 64 → IsTrue (are_rows (broadcast_row ∷ moved_row ∷ r ∷ []))
 three-rows r low = rw (lt-ltb r 64 low) refl

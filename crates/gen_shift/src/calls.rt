@@ -1,16 +1,19 @@
 // A call for each kind: a row of the table of shifts, and the extension by a sign.
-ghost use Rattle.std.specs.Prelude.{◌≡◌, Bool, ◌+◌, ◌-◌, ◌*◌, ◌/◌, ◌^◌, ◌<◌, ◌≤◌, ◌++◌};
+ghost use Rattle.std.specs.Prelude.{◌≡◌, Bool, pos, ◌+◌, ◌-◌, ◌*◌, ◌/◌, ◌^◌, ◌<◌, ◌≤◌, ◌++◌};
 ghost use Rattle.bit_laws.specs.Numbers.{low};
+ghost use Rattle.bit_laws.specs.Rounding.{low_int, rounded};
+ghost use Rattle.bit_laws.specs.Signed.{signed};
 ghost use Rattle.micro_ir.specs.Kinds.{Realises};
 ghost use Rattle.micro_ir.specs.Measures.{counts, Measured};
 ghost use Rattle.micro_ir.specs.WorkRows.{IsOperandRow};
 ghost use Rattle.gen_shift.specs.declared.kinds.Shift.TheVariants.{Sll, Srl, Sra};
-ghost use Rattle.gen_shift.specs.Rows.{shifted_row, shift_rows};
-ghost use Rattle.gen_shift.specs.Kinds.{signed_shifted, shift_ops, shift_counts, raw_ops, raw_counts, extension_ops};
+ghost use Rattle.gen_shift.specs.Rows.{rounded_row, rounding_rows};
+ghost use Rattle.gen_shift.specs.Kinds.{signed_shifted, shift_ops, shift_counts, rounding_ops, rounding_counts, rounding_length, rounded_ops, rounded_counts, rounded_length, extension_ops};
 ghost use Rattle.gen_shift.specs.Laws.{LeavesValue, ExtendsSign};
 
 use crate::kinds::Shift;
-use crate::lists::{emit_raw, emit_shift};
+use crate::lists::emit_shift;
+use crate::rounding::{emit_rounded, emit_rounding};
 use bit_laws::Width;
 use micro_ir::{MicroBuf, Place, emit_ups};
 
@@ -66,39 +69,80 @@ pub fn emit_sra<W: Width>(buf: &mut MicroBuf, at: &Place)
     emit_shift::<W>(buf, at, Shift::Sra);
 }
 
-/// A row moved to the right by the low bits of another one, zeros coming in, in the row of work that
-/// `raw_row` names (vector extension 1.0, section 11.7). The mode is the one that rounds down.
+/// A row moved to the right by the low bits of another one, zeros coming in, and rounded by the mode
+/// of the place, into the active elements of a register (vector extension 1.0, section 12.4).
+pub fn emit_ssrl<W: Width>(buf: &mut MicroBuf, at: &Place)
+    requires a { IsOperandRow at.now.a }
+    requires b { IsOperandRow at.now.b }
+    requires to { at.now.to < 32 }
+    requires mode { at.now.mode ≤ 3 }
+    requires room { rounded_length Srl at.now.mode W.BITS W.LOG ≤ buf.old.spare }
+    ensures ops { buf.new.ops ≡ buf.old.ops ++ rounded_ops Srl W.BITS W.LOG at.now }
+    ensures spare { buf.new.spare + rounded_length Srl at.now.mode W.BITS W.LOG ≡ buf.old.spare }
+    ensures realises { (reads : Bool) → Realises W.BITS at.now.to reads
+        (λ n c. low_int W.BITS (rounded at.now.mode (pos (n at.now.a)) (low W.LOG (n at.now.b))))
+        (rounded_ops Srl W.BITS W.LOG at.now) }
+    ensures cost { Measured (rounded_counts Srl at.now.mode W.BITS W.LOG)
+        (rounded_length Srl at.now.mode W.BITS W.LOG) (rounded_ops Srl W.BITS W.LOG at.now) }
+{
+    emit_rounded::<W>(buf, at, Shift::Srl);
+}
+
+/// A row moved to the right by the low bits of another one, the sign coming in, and rounded by the mode
+/// of the place, into the active elements of a register (vector extension 1.0, section 12.4).
+pub fn emit_ssra<W: Width>(buf: &mut MicroBuf, at: &Place)
+    requires a { IsOperandRow at.now.a }
+    requires b { IsOperandRow at.now.b }
+    requires to { at.now.to < 32 }
+    requires mode { at.now.mode ≤ 3 }
+    requires room { rounded_length Sra at.now.mode W.BITS W.LOG ≤ buf.old.spare }
+    ensures ops { buf.new.ops ≡ buf.old.ops ++ rounded_ops Sra W.BITS W.LOG at.now }
+    ensures spare { buf.new.spare + rounded_length Sra at.now.mode W.BITS W.LOG ≡ buf.old.spare }
+    ensures realises { (reads : Bool) → Realises W.BITS at.now.to reads
+        (λ n c. low_int W.BITS (rounded at.now.mode (signed W.BITS (n at.now.a)) (low W.LOG (n at.now.b))))
+        (rounded_ops Sra W.BITS W.LOG at.now) }
+    ensures cost { Measured (rounded_counts Sra at.now.mode W.BITS W.LOG)
+        (rounded_length Sra at.now.mode W.BITS W.LOG) (rounded_ops Sra W.BITS W.LOG at.now) }
+{
+    emit_rounded::<W>(buf, at, Shift::Sra);
+}
+
+/// A row moved to the right by the low bits of another one, zeros coming in, and rounded by the mode
+/// of the place, in the row of work that `rounding_row` names (vector extension 1.0, sections 11.7 and
+/// 12.5). The mode 2 rounds down.
 pub fn emit_srl_raw<W: Width>(buf: &mut MicroBuf, at: &Place)
     requires a { IsOperandRow at.now.a }
     requires b { IsOperandRow at.now.b }
-    requires mode { at.now.mode ≡ 2 }
-    requires room { W.LOG * (3 * W.BITS + 13) + 4 ≤ buf.old.spare }
-    ensures ops { buf.new.ops ≡ buf.old.ops ++ raw_ops Srl W.BITS W.LOG at.now }
-    ensures spare { buf.new.spare + (W.LOG * (3 * W.BITS + 13) + 4) ≡ buf.old.spare }
-    ensures leaves { LeavesValue W.BITS (shifted_row W.LOG) shift_rows
-        (λ n. n at.now.a / 2 ^ low W.LOG (n at.now.b)) (raw_ops Srl W.BITS W.LOG at.now) }
-    ensures cost { Measured (raw_counts Srl W.BITS W.LOG)
-        (W.LOG * (3 * W.BITS + 13) + 4) (raw_ops Srl W.BITS W.LOG at.now) }
+    requires mode { at.now.mode ≤ 3 }
+    requires room { rounding_length Srl at.now.mode W.BITS W.LOG ≤ buf.old.spare }
+    ensures ops { buf.new.ops ≡ buf.old.ops ++ rounding_ops Srl W.BITS W.LOG at.now }
+    ensures spare { buf.new.spare + rounding_length Srl at.now.mode W.BITS W.LOG ≡ buf.old.spare }
+    ensures leaves { LeavesValue W.BITS (rounded_row at.now.mode W.LOG) rounding_rows
+        (λ n. low_int W.BITS (rounded at.now.mode (pos (n at.now.a)) (low W.LOG (n at.now.b))))
+        (rounding_ops Srl W.BITS W.LOG at.now) }
+    ensures cost { Measured (rounding_counts Srl at.now.mode W.BITS W.LOG)
+        (rounding_length Srl at.now.mode W.BITS W.LOG) (rounding_ops Srl W.BITS W.LOG at.now) }
 {
-    emit_raw::<W>(buf, at, Shift::Srl);
+    emit_rounding::<W>(buf, at, Shift::Srl);
 }
 
-/// A row moved to the right by the low bits of another one, the sign coming in, in the row of work
-/// that `raw_row` names (vector extension 1.0, section 11.7). The mode is the one that rounds down.
+/// A row moved to the right by the low bits of another one, the sign coming in, and rounded by the mode
+/// of the place, in the row of work that `rounding_row` names (vector extension 1.0, sections 11.7 and
+/// 12.5). The mode 2 rounds down.
 pub fn emit_sra_raw<W: Width>(buf: &mut MicroBuf, at: &Place)
     requires a { IsOperandRow at.now.a }
     requires b { IsOperandRow at.now.b }
-    requires mode { at.now.mode ≡ 2 }
-    requires room { W.LOG * (3 * W.BITS + 15) + (3 * W.BITS + 5) ≤ buf.old.spare }
-    ensures ops { buf.new.ops ≡ buf.old.ops ++ raw_ops Sra W.BITS W.LOG at.now }
-    ensures spare { buf.new.spare + (W.LOG * (3 * W.BITS + 15) + (3 * W.BITS + 5)) ≡ buf.old.spare }
-    ensures leaves { LeavesValue W.BITS (shifted_row W.LOG) shift_rows
-        (λ n. signed_shifted W.BITS W.LOG (n at.now.a) (n at.now.b))
-        (raw_ops Sra W.BITS W.LOG at.now) }
-    ensures cost { Measured (raw_counts Sra W.BITS W.LOG)
-        (W.LOG * (3 * W.BITS + 15) + (3 * W.BITS + 5)) (raw_ops Sra W.BITS W.LOG at.now) }
+    requires mode { at.now.mode ≤ 3 }
+    requires room { rounding_length Sra at.now.mode W.BITS W.LOG ≤ buf.old.spare }
+    ensures ops { buf.new.ops ≡ buf.old.ops ++ rounding_ops Sra W.BITS W.LOG at.now }
+    ensures spare { buf.new.spare + rounding_length Sra at.now.mode W.BITS W.LOG ≡ buf.old.spare }
+    ensures leaves { LeavesValue W.BITS (rounded_row at.now.mode W.LOG) rounding_rows
+        (λ n. low_int W.BITS (rounded at.now.mode (signed W.BITS (n at.now.a)) (low W.LOG (n at.now.b))))
+        (rounding_ops Sra W.BITS W.LOG at.now) }
+    ensures cost { Measured (rounding_counts Sra at.now.mode W.BITS W.LOG)
+        (rounding_length Sra at.now.mode W.BITS W.LOG) (rounding_ops Sra W.BITS W.LOG at.now) }
 {
-    emit_raw::<W>(buf, at, Shift::Sra);
+    emit_rounding::<W>(buf, at, Shift::Sra);
 }
 
 /// Appends what extends the numbers of `source` bits in the elements of row `at.a` by their sign

@@ -1,13 +1,16 @@
 // The lists of shifts: one emitter for the three ways, with a commit and without.
 ghost use Rattle.std.specs.Prelude.{◌≡◌, ℕ, ◌+◌, ◌*◌, ◌<◌, ◌≤◌, ◌++◌};
 ghost use Rattle.micro_ir.specs.Measures.{Measured};
+ghost use Rattle.micro_ir.specs.Steps.{micros};
 ghost use Rattle.micro_ir.specs.WorkRows.{IsOperandRow};
 ghost use Rattle.gen_shift.specs.declared.kinds.Shift.{Shift};
 ghost use Rattle.gen_shift.specs.Rows.{shifted_row};
-ghost use Rattle.gen_shift.specs.Kinds.{shift_ops, shift_counts, shift_length, raw_ops, raw_counts, raw_length};
+ghost use Rattle.gen_shift.specs.Kinds.{shift_ops, shift_counts, shift_length, raw_ops, raw_counts, raw_length, shifting_length};
+ghost use Rattle.gen_shift.specs.Lists.{shifting};
 ghost use Rattle.gen_shift.specs.Laws.{RealisesShift, LeavesShift};
 
 use crate::kinds::Shift;
+use crate::outs::emit_starting;
 use crate::rows::{SHIFTED_ROW, shift_row};
 use crate::stages::{emit_signing, emit_stages};
 use bit_laws::Width;
@@ -23,6 +26,22 @@ pub fn raw_row<W: Width>() -> u8
     shift_row(W::LOG % 2 == 1)
 }
 
+// Appends what moves row `at.a` by the low bits of row `at.b`, and keeps what goes out or not.
+pub(crate) fn emit_shifting<W: Width>(buf: &mut MicroBuf, at: &Place, kind: Shift, keeps: bool)
+    requires a { IsOperandRow at.now.a }
+    requires b { IsOperandRow at.now.b }
+    requires room { shifting_length kind keeps W.BITS W.LOG ≤ buf.old.spare }
+    ensures ops { buf.new.ops
+        ≡ buf.old.ops ++ micros W.BITS (shifting kind keeps W.BITS W.LOG at.now.a at.now.b) }
+    ensures spare { buf.new.spare + shifting_length kind keeps W.BITS W.LOG ≡ buf.old.spare }
+{
+    emit_starting::<W>(buf, keeps);
+    emit_signing::<W>(buf, at.a, kind);
+    emit_clear(buf, SHIFTED_ROW);
+    emit_everywhere(buf, &[at.a], &ONE_ON, SHIFTED_ROW);
+    emit_stages::<W>(buf, at.b, kind, keeps);
+}
+
 /// Appends what moves row `at.a` by the low bits of row `at.b`, and leaves the result in the row that
 /// `raw_row` names, of active elements and of others (vector extension 1.0, sections 11.6 and 11.7).
 /// An operand row is a register or the row of the mask bits, of the scalar or of a wide operand. No
@@ -36,10 +55,7 @@ pub fn emit_raw<W: Width>(buf: &mut MicroBuf, at: &Place, kind: Shift)
     ensures leaves { LeavesShift kind W.BITS W.LOG at.now }
     ensures cost { Measured (raw_counts kind W.BITS W.LOG) (raw_length kind W.BITS W.LOG) (raw_ops kind W.BITS W.LOG at.now) }
 {
-    emit_signing::<W>(buf, at.a, kind);
-    emit_clear(buf, SHIFTED_ROW);
-    emit_everywhere(buf, &[at.a], &ONE_ON, SHIFTED_ROW);
-    emit_stages::<W>(buf, at.b, kind);
+    emit_shifting::<W>(buf, at, kind, false);
 }
 
 /// Appends what puts row `at.a`, moved by the low bits of row `at.b`, into the active elements of

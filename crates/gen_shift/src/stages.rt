@@ -4,9 +4,10 @@ ghost use Rattle.micro_ir.specs.Steps.{micro, micros};
 ghost use Rattle.micro_ir.specs.WorkRows.{IsOperandRow};
 ghost use Rattle.gen_shift.specs.Rows.{moved_row, sign_row};
 ghost use Rattle.gen_shift.specs.Lists.{filling, goes_up, sign_steps, signing, slide, stage, stages, top_bits};
-ghost use Rattle.gen_shift.specs.Kinds.{fill_length, sign_length, stage_length};
+ghost use Rattle.gen_shift.specs.Kinds.{fill_length, out_length, sign_length, stage_length, stages_length};
 
 use crate::kinds::{Shift, is_left, is_signed, kept_bits};
+use crate::outs::emit_keeping;
 use crate::rows::{MOVED_ROW, SIGN_ROW, shift_row};
 use bit_laws::Width;
 use micro_ir::{
@@ -89,15 +90,25 @@ fn emit_slide<W: Width>(buf: &mut MicroBuf, former: u8, by: u8, kind: Shift)
     emit_rows::<W>(buf, &[former], &ONE_ON, MOVED_ROW, kept);
 }
 
-// A stage that moves by so many places where a bit of row `b` is 1.
-fn emit_stage<W: Width>(buf: &mut MicroBuf, b: u8, odd: bool, bit: u8, by: u8, kind: Shift)
+// A stage that moves by so many places where a bit of row `b` is 1, and keeps what goes out or not.
+fn emit_stage<W: Width>(
+    buf: &mut MicroBuf,
+    b: u8,
+    odd: bool,
+    bit: u8,
+    by: u8,
+    kind: Shift,
+    keeps: bool,
+)
     requires b { IsOperandRow b }
     requires bit { bit < W.BITS }
     requires some { 0 < by }
     requires by { by < W.BITS }
-    requires room { stage_length kind W.BITS ≤ buf.old.spare }
-    ensures ops { buf.new.ops ≡ buf.old.ops ++ micros W.BITS (stage kind W.BITS b odd bit by) }
-    ensures spare { buf.new.spare + stage_length kind W.BITS ≡ buf.old.spare }
+    requires room { stage_length kind W.BITS + out_length keeps by ≤ buf.old.spare }
+    ensures ops { buf.new.ops
+        ≡ buf.old.ops ++ micros W.BITS (stage kind keeps W.BITS b odd bit by) }
+    ensures spare { buf.new.spare + (stage_length kind W.BITS + out_length keeps by)
+        ≡ buf.old.spare }
 {
     let former = shift_row(odd);
     let next = shift_row(!odd);
@@ -106,6 +117,7 @@ fn emit_stage<W: Width>(buf: &mut MicroBuf, b: u8, odd: bool, bit: u8, by: u8, k
     emit_slide::<W>(buf, former, by, kind);
     emit_filling::<W>(buf, by, kind);
     emit_clear(buf, next);
+    emit_keeping::<W>(buf, odd, by, keeps);
     emit_everywhere(
         buf,
         &[BROADCAST_ROW, MOVED_ROW, former],
@@ -115,13 +127,13 @@ fn emit_stage<W: Width>(buf: &mut MicroBuf, b: u8, odd: bool, bit: u8, by: u8, k
 }
 
 // All stages of a shift by the low bits of row `b`.
-pub(crate) fn emit_stages<W: Width>(buf: &mut MicroBuf, b: u8, kind: Shift)
+pub(crate) fn emit_stages<W: Width>(buf: &mut MicroBuf, b: u8, kind: Shift, keeps: bool)
     requires b { IsOperandRow b }
-    requires room { W.LOG * stage_length kind W.BITS ≤ buf.old.spare }
-    ensures ops { buf.new.ops ≡ buf.old.ops ++ micros W.BITS (stages kind W.BITS b W.LOG) }
-    ensures spare { buf.new.spare + W.LOG * stage_length kind W.BITS ≡ buf.old.spare }
+    requires room { stages_length kind keeps W.BITS W.LOG ≤ buf.old.spare }
+    ensures ops { buf.new.ops ≡ buf.old.ops ++ micros W.BITS (stages kind keeps W.BITS b W.LOG) }
+    ensures spare { buf.new.spare + stages_length kind keeps W.BITS W.LOG ≡ buf.old.spare }
 {
     for bit in 0..W::LOG as u8 {
-        emit_stage::<W>(buf, b, bit % 2 == 1, bit, 1 << bit, kind);
+        emit_stage::<W>(buf, b, bit % 2 == 1, bit, 1 << bit, kind, keeps);
     }
 }

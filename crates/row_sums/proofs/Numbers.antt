@@ -9,7 +9,7 @@ use Rattle.bit_laws.proofs.Numbers.{number-same, number-lt}
 use Rattle.gen_arith.specs.Recipes.{odd_on, most_on, borrow_on}
 use Rattle.gen_arith.proofs.Rows.{finds, carried}
 use Rattle.gen_arith.proofs.Numbers.{adder, sum_digits, low-top}
-use Rattle.gen_shift.specs.Kinds.{low_int}
+use Rattle.bit_laws.specs.Rounding.{low_int}
 use Rattle.row_sums.proofs.Totals.{Totalled}
 
 pub total-sum : (w d k : ℕ) (x y : ℕ → Bool) (now : ℕ → ℕ → Bool) → Totalled w d k odd_on most_on x y now

@@ -2,7 +2,7 @@ use Rattle.std.proofs.Common.{◌≡◌, ◌<◌, not, ◌++◌, ◌∙◌, appe
 use Rattle.micro_ir.specs.Steps.{micro, micros}
 use Rattle.micro_ir.specs.Pieces.{broadcast, clear}
 use Rattle.gen_shift.specs.Rows.{moved_row, shift_role}
-use Rattle.gen_shift.specs.Lists.{goes_up, filling, merging, slide}
+use Rattle.gen_shift.specs.Lists.{goes_up, filling, keeping, merging, slide}
 use Rattle.gen_shift.proofs.Stays.{operand-row, operand-apart, three-rows}
 use Rattle.gen_shift.proofs.Written.{stage-list}
 use Rattle.gen_shift.proofs.stages.emit_stage.Goals as goal
@@ -28,6 +28,7 @@ returns-clause-ops g c =
     rw c.shift_row-former.ensures.role at c.emit_slide.ensures.ops in
     let filled : c.emit_filling.new.buf.ops ≡ c.emit_slide.new.buf.ops ++ micros w (filling c.args.kind w c.args.by) = c.emit_filling.ensures.ops in
     let emptied : c.emit_clear-2.new.buf.ops ≡ c.emit_filling.new.buf.ops ++ micro w (clear w next) = rw c.shift_row-next.ensures.role at (c.emit_clear-2.ensures.ops w some) in
-    let merged : c.emit_everywhere.new.buf.ops ≡ c.emit_clear-2.new.buf.ops ++ micro w (merging w c.args.odd) =
+    let kept : c.emit_keeping.new.buf.ops ≡ c.emit_clear-2.new.buf.ops ++ micros w (keeping c.args.keeps w c.args.odd c.args.by) = c.emit_keeping.ensures.ops in
+    let merged : c.emit_everywhere.new.buf.ops ≡ c.emit_keeping.new.buf.ops ++ micro w (merging w c.args.odd) =
     rw (c.shift_row-former.ensures.role, c.shift_row-next.ensures.role) at (c.emit_everywhere.ensures.ops w some) in
-    merged ∙ rw (emptied, filled, moved, cleared, amount, stage-list c.args.kind w c.args.b c.args.odd c.args.bit c.args.by) (simp append_assoc)
+    merged ∙ rw (kept, emptied, filled, moved, cleared, amount, stage-list c.args.kind c.args.keeps w c.args.b c.args.odd c.args.bit c.args.by) (simp append_assoc)

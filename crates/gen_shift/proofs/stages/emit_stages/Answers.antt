@@ -1,11 +1,11 @@
 use Rattle.std.proofs.Common.{◌≡◌, ℕ, suc, ◌+◌, ◌*◌, ◌%◌, ◌^◌, ◌<◌, ◌≤◌, eqb, ◌++◌, sym, append-nil, arith}
 use Rattle.std.proofs.lemmas.Nat.{one_shl, pow_pos}
-use Rattle.std.proofs.Math.Nat.{mul-le-mul_right, pow-suc}
+use Rattle.std.proofs.Math.Nat.{pow-suc}
 use Rattle.std.proofs.Math.Pow.{pow_mono}
 use Rattle.micro_ir.specs.Steps.{micros}
 use Rattle.gen_shift.specs.Lists.{stage}
-use Rattle.gen_shift.specs.Kinds.{stage_length}
 use Rattle.gen_shift.proofs.Barrel.{below-power, few-stages}
+use Rattle.gen_shift.proofs.Costs.{lengths-none, lengths-next, lengths-most}
 use Rattle.gen_shift.proofs.Families.{width-most}
 use Rattle.gen_shift.proofs.Written.{one-more, stages-none, stages-more}
 use Rattle.gen_shift.proofs.stages.emit_stages.Goals as goal
@@ -37,7 +37,10 @@ pub overflow_shl-bit : goal.overflow_shl-bit
 overflow_shl-bit g c = (bit-of g.W.Width.BITS g.W.Width.LOG c.loop-bit.bit g.met.W.Width.power g.met.W.Width.divides (omega (arith, c.loop-bit-test.true, c.LOG-bit-end.ensures))).few
 
 pub loop-bit-init : goal.loop-bit-init
-loop-bit-init g c = record { ops = rw (stages-none c.args.kind g.W.Width.BITS c.args.b) (sym (append-nil _)); spare = omega arith }
+loop-bit-init g c = record {
+  ops = rw (stages-none c.args.kind c.args.keeps g.W.Width.BITS c.args.b) (sym (append-nil _));
+  spare = rw (lengths-none c.args.kind c.args.keeps g.W.Width.BITS) (omega arith);
+}
 
 pub emit_stage-requires-clause-bit : goal.emit_stage-requires-clause-bit
 emit_stage-requires-clause-bit g c = (bit-of g.W.Width.BITS g.W.Width.LOG c.loop-bit.bit g.met.W.Width.power g.met.W.Width.divides (omega (arith, c.loop-bit-test.true, c.LOG-bit-end.ensures))).below
@@ -50,10 +53,13 @@ emit_stage-requires-clause-by g c = (bit-of g.W.Width.BITS g.W.Width.LOG c.loop-
 
 pub emit_stage-requires-clause-room : goal.emit_stage-requires-clause-room
 emit_stage-requires-clause-room g c =
-    let each : ℕ = stage_length c.args.kind g.W.Width.BITS in
-    let before : c.loop-bit.bit + 1 ≤ g.W.Width.LOG = omega (arith, c.loop-bit-test.true, c.LOG-bit-end.ensures) in
-    let most : (c.loop-bit.bit + 1) * each ≤ g.W.Width.LOG * each = mul-le-mul_right each before in
-    omega (arith, most, c.loop-bit.invariant.spare, c.requires.room)
+    let w : ℕ = g.W.Width.BITS in
+    let bit : ℕ = c.loop-bit.bit in
+    let b = bit-of w g.W.Width.LOG bit g.met.W.Width.power g.met.W.Width.divides (omega (arith, c.loop-bit-test.true, c.LOG-bit-end.ensures)) in
+    let by : 1 * 2 ^ bit % 2 ^ 8 ≡ 2 ^ bit = one_shl bit 8 b.few in
+    let before : suc bit ≤ g.W.Width.LOG = omega (arith, c.loop-bit-test.true, c.LOG-bit-end.ensures) in
+    let most = lengths-most c.args.kind c.args.keeps w (suc bit) g.W.Width.LOG before in
+    rw by (omega (arith, most, lengths-next c.args.kind c.args.keeps w bit, c.loop-bit.invariant.spare, c.requires.room))
 
 pub loop-bit-preserved : goal.loop-bit-preserved
 loop-bit-preserved g c =
@@ -61,10 +67,12 @@ loop-bit-preserved g c =
     let bit : ℕ = c.loop-bit.bit in
     let b = bit-of w g.W.Width.LOG bit g.met.W.Width.power g.met.W.Width.divides (omega (arith, c.loop-bit-test.true, c.LOG-bit-end.ensures)) in
     let by : 1 * 2 ^ bit % 2 ^ 8 ≡ 2 ^ bit = one_shl bit 8 b.few in
-    let made : c.emit_stage.new.buf.ops ≡ c.loop-bit.buf.ops ++ micros w (stage c.args.kind w c.args.b (eqb (bit % 2) 1) bit (2 ^ bit)) = rw by at c.emit_stage.ensures.ops in
+    let made : c.emit_stage.new.buf.ops ≡ c.loop-bit.buf.ops ++ micros w (stage c.args.kind c.args.keeps w c.args.b (eqb (bit % 2) 1) bit (2 ^ bit)) = rw by at c.emit_stage.ensures.ops in
+    let next : bit + 1 ≡ suc bit = omega arith in
+    let used = rw by at c.emit_stage.ensures.spare in
     record {
-      ops = one-more _ _ _ made c.loop-bit.invariant.ops (stages-more c.args.kind w c.args.b bit);
-      spare = omega (arith, c.emit_stage.ensures.spare, c.loop-bit.invariant.spare);
+      ops = one-more _ _ _ made c.loop-bit.invariant.ops (stages-more c.args.kind c.args.keeps w c.args.b bit);
+      spare = rw next (omega (arith, used, lengths-next c.args.kind c.args.keeps w bit, c.loop-bit.invariant.spare));
     }
 
 pub returns-clause-ops : goal.returns-clause-ops
