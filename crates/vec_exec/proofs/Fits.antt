@@ -2,15 +2,13 @@
 use Rattle.std.proofs.Common.{◌≡◌, ℕ, ◌+◌, ◌-◌, ◌*◌, ◌^◌, eqb, Bool, true, false, cond, leb, ltb, Option, Some, None, refl, ap, arith, mul_comm}
 use Rattle.std.specs.Prelude.{is_some, ℤ, pos, negsuc, ◌*ℤ◌, int_div, int_rem}
 use Rattle.std.specs.Int.{int_shr, int_div_euclid}
-use Rattle.rvv_decode.specs.declared.instruction.OpiOp.TheVariants.{Vadd, Vsub, Vrsub, Vadc, Vsbc, Vmadc, Vmsbc, Vand, Vor, Vxor, Vsll, Vsrl, Vsra, Vmseq, Vmsne, Vmsltu, Vmslt, Vmsleu, Vmsle, Vmsgtu, Vmsgt, Vminu, Vmin, Vmaxu, Vmax, Vmerge, VmvV, Vnsrl, Vnsra}
+use Rattle.rvv_decode.specs.declared.instruction.OpiOp.TheVariants.{Vadd, Vsub, Vrsub, Vadc, Vsbc, Vmadc, Vmsbc, Vand, Vor, Vxor, Vsll, Vsrl, Vsra, Vmseq, Vmsne, Vmsltu, Vmslt, Vmsleu, Vmsle, Vmsgtu, Vmsgt, Vminu, Vmin, Vmaxu, Vmax, Vmerge, VmvV, Vnsrl, Vnsra, Vssrl, Vssra}
 use Rattle.rvv_decode.specs.declared.instruction.OpmOp.TheVariants.{Vdivu, Vdiv, Vremu, Vrem, Vmulhu, Vmul, Vmulhsu, Vmulh, Vmadd, Vnmsub, Vmacc, Vnmsac, VzextVf2, VzextVf4, VsextVf2, VsextVf4, Vwaddu, Vwadd, Vwsubu, Vwsub, VwadduW, VwaddW, VwsubuW, VwsubW, Vwmulu, Vwmulsu, Vwmul, Vwmaccu, Vwmacc, Vwmaccus, Vwmaccsu}
 use Rattle.rvv_decode.specs.declared.instruction.VOp.{VOp}
 use Rattle.rvv_decode.specs.declared.instruction.VOp.TheVariants.{Opi, Opm, Config, Memory}
 use Rattle.vtype_cfg.specs.Classes.{Class, class_of, opi_class, opm_class, compare, narrowing}
 use Rattle.bit_laws.specs.Numbers.{low}
 use Rattle.bit_laws.specs.Signed.{signed}
-use Rattle.gen_shift.specs.Kinds as shifts
-use Rattle.bit_laws.specs.Rounding.{low_int}
 use Rattle.rvv_meaning.specs.Operations.{log2, Operation, operation_for}
 use Rattle.frame_meaning.specs.declared.Order.{Order}
 use Rattle.frame_meaning.specs.declared.Order.TheVariants.{Straight, Widening, WideSource, Half, Quarter}
@@ -135,11 +133,6 @@ FitsIf op (Some r) (Some o) = Fits op r o
 FitsIf op (Some r) None = ⊥
 FitsIf op None (Some o) = ⊥
 
--- what is left of a number with a sign, in the words of the list and of the meaning
-same-low : (w : ℕ) (z : ℤ) → shifts.low_int w z ≡ low_int w z
-same-low w (pos n) = refl
-same-low w (negsuc n) = refl
-
 -- a product added to a third operand, and taken from it, in the order of the list and of the meaning
 added : (a b d : ℕ) → a * b + d ≡ b * a + d
 added a b d = ap (λ (n : ℕ). n + d) (mul_comm a b)
@@ -161,7 +154,7 @@ fits (Opi Vor) = record { same = refl; ignores = tt; means = λ w mode a b d m. 
 fits (Opi Vxor) = record { same = refl; ignores = tt; means = λ w mode a b d m. refl; unmasked = λ w mode a b d m. refl; halves = tt; clips = refl }
 fits (Opi Vsll) = record { same = refl; ignores = tt; means = λ w mode a b d m. refl; unmasked = λ w mode a b d m. refl; halves = tt; clips = refl }
 fits (Opi Vsrl) = record { same = refl; ignores = tt; means = λ w mode a b d m. refl; unmasked = λ w mode a b d m. refl; halves = tt; clips = refl }
-fits (Opi Vsra) = record { same = refl; ignores = tt; means = λ w mode a b d m. same-low w (int_shr (signed w a) (low (log2 w) b)); unmasked = λ w mode a b d m. refl; halves = tt; clips = refl }
+fits (Opi Vsra) = record { same = refl; ignores = tt; means = λ w mode a b d m. refl; unmasked = λ w mode a b d m. refl; halves = tt; clips = refl }
 fits (Opi Vmseq) = record { same = refl; ignores = tt; means = λ w mode a b d m. refl; unmasked = λ w a b m. refl; halves = tt; clips = refl }
 fits (Opi Vmsne) = record { same = refl; ignores = tt; means = λ w mode a b d m. refl; unmasked = λ w a b m. refl; halves = tt; clips = refl }
 fits (Opi Vmsltu) = record { same = refl; ignores = tt; means = λ w mode a b d m. refl; unmasked = λ w a b m. refl; halves = tt; clips = refl }
@@ -177,15 +170,17 @@ fits (Opi Vmax) = record { same = refl; ignores = tt; means = λ w mode a b d m.
 fits (Opi Vmerge) = record { same = refl; ignores = tt; means = λ w mode a b d m. refl; unmasked = λ w mode a b d m. refl; halves = tt; clips = refl }
 fits (Opi VmvV) = record { same = refl; ignores = λ w mode x y b d m. refl; means = λ w mode a b d m. refl; unmasked = λ w mode a b d m. refl; halves = tt; clips = refl }
 fits (Opi Vnsrl) = record { same = refl; ignores = tt; means = λ w mode a b d m. refl; unmasked = λ w mode a b d m. refl; halves = (record { ignores = λ w mode a b d m. refl; a = refl; b = refl; immediate = refl }, refl); clips = refl }
-fits (Opi Vnsra) = record { same = refl; ignores = tt; means = λ w mode a b d m. same-low (2 * w) (int_shr (signed (2 * w) a) (low (log2 (2 * w)) b)); unmasked = λ w mode a b d m. refl; halves = (record { ignores = λ w mode a b d m. refl; a = refl; b = refl; immediate = refl }, refl); clips = refl }
+fits (Opi Vnsra) = record { same = refl; ignores = tt; means = λ w mode a b d m. refl; unmasked = λ w mode a b d m. refl; halves = (record { ignores = λ w mode a b d m. refl; a = refl; b = refl; immediate = refl }, refl); clips = refl }
+fits (Opi Vssrl) = record { same = refl; ignores = tt; means = λ w mode a b d m. refl; unmasked = λ w mode a b d m. refl; halves = tt; clips = refl }
+fits (Opi Vssra) = record { same = refl; ignores = tt; means = λ w mode a b d m. refl; unmasked = λ w mode a b d m. refl; halves = tt; clips = refl }
 fits (Opm Vmul) = record { same = refl; ignores = tt; means = λ w mode a b d m. refl; unmasked = λ w mode a b d m. refl; halves = tt; clips = refl }
-fits (Opm Vmulh) = record { same = refl; ignores = tt; means = λ w mode a b d m. same-low w (int_div_euclid (signed w a *ℤ signed w b) (pos (2 ^ w))); unmasked = λ w mode a b d m. refl; halves = tt; clips = refl }
+fits (Opm Vmulh) = record { same = refl; ignores = tt; means = λ w mode a b d m. refl; unmasked = λ w mode a b d m. refl; halves = tt; clips = refl }
 fits (Opm Vmulhu) = record { same = refl; ignores = tt; means = λ w mode a b d m. refl; unmasked = λ w mode a b d m. refl; halves = tt; clips = refl }
-fits (Opm Vmulhsu) = record { same = refl; ignores = tt; means = λ w mode a b d m. same-low w (int_div_euclid (signed w a *ℤ pos b) (pos (2 ^ w))); unmasked = λ w mode a b d m. refl; halves = tt; clips = refl }
+fits (Opm Vmulhsu) = record { same = refl; ignores = tt; means = λ w mode a b d m. refl; unmasked = λ w mode a b d m. refl; halves = tt; clips = refl }
 fits (Opm Vdivu) = record { same = refl; ignores = tt; means = λ w mode a b d m. refl; unmasked = λ w mode a b d m. refl; halves = tt; clips = refl }
-fits (Opm Vdiv) = record { same = refl; ignores = tt; means = λ w mode a b d m. ap (cond (eqb b 0) (2 ^ w - 1)) (same-low w (int_div (signed w a) (signed w b))); unmasked = λ w mode a b d m. refl; halves = tt; clips = refl }
+fits (Opm Vdiv) = record { same = refl; ignores = tt; means = λ w mode a b d m. refl; unmasked = λ w mode a b d m. refl; halves = tt; clips = refl }
 fits (Opm Vremu) = record { same = refl; ignores = tt; means = λ w mode a b d m. refl; unmasked = λ w mode a b d m. refl; halves = tt; clips = refl }
-fits (Opm Vrem) = record { same = refl; ignores = tt; means = λ w mode a b d m. ap (cond (eqb b 0) a) (same-low w (int_rem (signed w a) (signed w b))); unmasked = λ w mode a b d m. refl; halves = tt; clips = refl }
+fits (Opm Vrem) = record { same = refl; ignores = tt; means = λ w mode a b d m. refl; unmasked = λ w mode a b d m. refl; halves = tt; clips = refl }
 fits (Opm Vmacc) = record { same = refl; ignores = tt; means = λ w mode a b d m. added a b d; unmasked = λ w mode a b d m. refl; halves = tt; clips = refl }
 fits (Opm Vnmsac) = record { same = refl; ignores = tt; means = λ w mode a b d m. taken w a b d; unmasked = λ w mode a b d m. refl; halves = tt; clips = refl }
 fits (Opm Vmadd) = record { same = refl; ignores = tt; means = λ w mode a b d m. added a b d; unmasked = λ w mode a b d m. refl; halves = tt; clips = refl }

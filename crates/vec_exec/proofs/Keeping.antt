@@ -10,7 +10,7 @@ use Rattle.rvv_decode.specs.declared.instruction.VInstr.{VInstr}
 use Rattle.vtype_cfg.specs.declared.configuration.Cfg.{Cfg}
 use Rattle.rvv_meaning.specs.Elementwise.{is_ones}
 use Rattle.vec_exec.specs.declared.recipes.Listed.{Listed}
-use Rattle.vec_exec.specs.declared.recipes.Listed.TheVariants.{Bits, Sums, Truths, Choices, Shifts, Products, Divisions, Copies, Halves}
+use Rattle.vec_exec.specs.declared.recipes.Listed.TheVariants.{Bits, Sums, Truths, Choices, Shifts, Products, Roundings, Divisions, Copies, Halves}
 use Rattle.vec_exec.specs.declared.recipes.Recipe.{Recipe}
 use Rattle.frame_laws.specs.Classes.Halved.{Pair, Lists, halves_row, half_list, halves_list}
 use Rattle.frame_laws.specs.Classes.Operands.{laid_out}
@@ -36,6 +36,7 @@ list-keep (Truths kind) w mode a b d to quiet = micros-keep w _
 list-keep (Choices kind) w mode a b d to quiet = micros-keep w _
 list-keep (Shifts kind) w mode a b d to quiet = micros-keep w _
 list-keep (Products kind) w mode a b d to quiet = micros-keep w _
+list-keep (Roundings right) w mode a b d to quiet = micros-keep w _
 list-keep (Divisions kind) w mode a b d to quiet = micros-keep w _
 list-keep Copies w mode a b d to quiet = micros-keep w _
 list-keep (Halves kind) w mode a b d to quiet = micros-keep (2 * w) _

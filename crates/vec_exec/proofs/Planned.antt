@@ -52,7 +52,7 @@ use Rattle.vec_exec.specs.Recipes.{recipe_for, makes_bits, makes_halves, takes_r
 use Rattle.vec_exec.specs.Programs.{reads, list_for, width_of, count_of, kind_list, truth_list, wide_lists, body_counts, body_length, half_counts, half_length, element_program, mask_program, half_program, register_list, registers_list, mask_register_list, mask_registers_list, half_register_list, half_registers_list, mask_fill_list, scalar_list, IsMade, IsMaskMade, IsHalfMade, prog, program_by, cost, cost_by}
 use Rattle.vec_exec.proofs.Keeping.{elements-keep, mask-keep, halves-keep-program}
 use Rattle.vec_exec.proofs.Fits.{never, Traits, takes_one_laid, has_wide_rows, Means, Unmasked, Clipping, Fits}
-use Rattle.vec_exec.proofs.Placed.{valid-setting, valid-length, valid-short, no-bit, second-row, wide-row, compared-row, operand-row, plain-rows, wide-rows, laid-rows, operand-small, fits-small, layable, second-layable, wide-layable, Rows, Plans, MaskPlans, HalfPlans, source-half, source-quarter, half-legal, half-wide, half-planned}
+use Rattle.vec_exec.proofs.Placed.{valid-setting, valid-length, valid-mode, valid-short, no-bit, second-row, wide-row, compared-row, operand-row, plain-rows, wide-rows, laid-rows, operand-small, fits-small, layable, second-layable, wide-layable, Rows, Plans, MaskPlans, HalfPlans, source-half, source-quarter, half-legal, half-wide, half-planned}
 use Rattle.vec_exec.proofs.Listing.{lists-compute, leaves-same, clips-same, bits-quiet, halves-quiet, spared}
 
 -- no element is clipped where the operation clips none
@@ -378,6 +378,7 @@ module _ (r : Recipe) (o : Operation) (i : VInstr) (c : Cfg) (x : ℕ) (f : Fits
         placed = λ g inside.
             let rows = rows-in r i c (list_for r i) (shape_in r.order i c x o) (value_in r.order i c o) (c.vlen / 32) r.order (signs_of o) (laid-for r o i c x f) (free-for r o i c x f) facts.sew (half-width facts) (quarter-width facts) plain g inside in
             record {
+              mode = valid-mode c valid;
               vd = let room : i.vd + count_in r.order c.vtype ≤ 32 = facts.place.room in omega arith;
               a = rw signed (fits-small _ _ _ rows.fit).0;
               b = rw signed (fits-small _ _ _ rows.fit).1;

@@ -1,5 +1,5 @@
 -- The program of an instruction, what it costs, and when a list realises an instruction.
-use Rattle.std.specs.Prelude.{◌≡◌, ◌<◌, ℕ, zero, suc, ◌+◌, ◌-◌, ◌*◌, ◌/◌, Bool, true, false, cond, ◌&&◌, not, List, [], ◌∷◌, ◌++◌, Option, Some, None}
+use Rattle.std.specs.Prelude.{◌≡◌, ◌<◌, ◌≤◌, ℕ, zero, suc, ◌+◌, ◌-◌, ◌*◌, ◌/◌, Bool, true, false, cond, ◌&&◌, not, List, [], ◌∷◌, ◌++◌, Option, Some, None}
 use Rattle.std.specs.Option.{option_map_or}
 use Rattle.bit_laws.specs.Numbers.{low}
 use Rattle.bit_rows.specs.Slices.{Slices}
@@ -282,6 +282,7 @@ IsLayable (narrow signed by n r row) w g = (r + g / by < 32) × IsElementWidth n
 
 -- register g of the destination and the rows of its operands are there
 pub record IsPlaced (r : Recipe) (i : VInstr) (c : Cfg) (g : ℕ) : Type 0 where
+  pub mode : c.vxrm ≤ 3
   pub vd : i.vd + g < 32
   pub a : row_of (operands_of r i c).a g < 64
   pub b : row_of (operands_of r i c).b g < 64

@@ -13,7 +13,8 @@ use Rattle.gen_logic.specs.Values.{takes_mask, value_of as logic_value}
 use Rattle.gen_logic.specs.declared.kinds.Logic.TheVariants.{And, Or, Xor, Merge, First, Second}
 use Rattle.gen_mul.specs.Kinds.{product_value, product_ops, product_counts, product_length}
 use Rattle.gen_mul.specs.declared.kinds.Product.TheVariants.{Mul, Mulhu, Mulhsu, Mulh, Macc, Nmsac}
-use Rattle.gen_shift.specs.Kinds.{shift_value, shift_ops, shift_counts, shift_length, raw_ops, raw_counts, raw_length}
+use Rattle.gen_shift.specs.Kinds.{shift_value, shift_ops, shift_counts, shift_length, raw_ops, raw_counts, raw_length, rounded_value, rounded_ops, rounded_counts, rounded_length}
+use Rattle.gen_shift.specs.declared.kinds.Shift.{Shift}
 use Rattle.gen_shift.specs.declared.kinds.Shift.TheVariants.{Sll, Srl, Sra}
 use Rattle.micro_ir.specs.Kinds.{Realises, Tells}
 use Rattle.micro_ir.specs.Measures.{counts}
@@ -23,7 +24,7 @@ use Rattle.micro_ir.specs.WorkRows.{IsOperandRow, result_row}
 use Rattle.micro_ir.specs.declared.op.MicroOp.{MicroOp}
 use Rattle.micro_ir.specs.declared.place.Place.{Place}
 use Rattle.row_views.specs.Clips.{ClipsWhere}
-use Rattle.rvv_decode.specs.declared.instruction.OpiOp.TheVariants.{Vadd, Vsub, Vrsub, Vadc, Vsbc, Vmadc, Vmsbc, Vand, Vor, Vxor, Vsll, Vsrl, Vsra, Vmseq, Vmsne, Vmsltu, Vmslt, Vmsleu, Vmsle, Vmsgtu, Vmsgt, Vminu, Vmin, Vmaxu, Vmax, Vmerge, VmvV, Vnsrl, Vnsra}
+use Rattle.rvv_decode.specs.declared.instruction.OpiOp.TheVariants.{Vadd, Vsub, Vrsub, Vadc, Vsbc, Vmadc, Vmsbc, Vand, Vor, Vxor, Vsll, Vsrl, Vsra, Vmseq, Vmsne, Vmsltu, Vmslt, Vmsleu, Vmsle, Vmsgtu, Vmsgt, Vminu, Vmin, Vmaxu, Vmax, Vmerge, VmvV, Vnsrl, Vnsra, Vssrl, Vssra}
 use Rattle.rvv_decode.specs.declared.instruction.OpmOp.TheVariants.{Vdivu, Vdiv, Vremu, Vrem, Vmulhu, Vmul, Vmulhsu, Vmulh, Vmadd, Vnmsub, Vmacc, Vnmsac, VzextVf2, VzextVf4, VsextVf2, VsextVf4, Vwaddu, Vwadd, Vwsubu, Vwsub, VwadduW, VwaddW, VwsubuW, VwsubW, Vwmulu, Vwmulsu, Vwmul, Vwmaccu, Vwmacc, Vwmaccus, Vwmaccsu}
 use Rattle.rvv_decode.specs.declared.instruction.VOp.{VOp}
 use Rattle.rvv_decode.specs.declared.instruction.VOp.TheVariants.{Opi, Opm}
@@ -31,8 +32,10 @@ use Rattle.frame_meaning.specs.declared.Order.{Order}
 use Rattle.frame_meaning.specs.declared.Order.TheVariants.{Straight, Reversed, Second as SecondAlone, Exchanged, Widening, WideSource, Half, Quarter}
 use Rattle.rvv_meaning.specs.Operations.{log2}
 use Rattle.vec_exec.specs.declared.recipes.Listed.{Listed}
-use Rattle.vec_exec.specs.declared.recipes.Listed.TheVariants.{Bits, Sums, Truths, Choices, Shifts, Products, Divisions, Copies, Halves}
+use Rattle.vec_exec.specs.declared.recipes.Listed.TheVariants.{Bits, Sums, Truths, Choices, Shifts, Products, Roundings, Divisions, Copies, Halves}
 use Rattle.vec_exec.specs.declared.recipes.Recipe.{Recipe}
+use Rattle.vec_exec.specs.declared.recipes.Right.{Right}
+use Rattle.vec_exec.specs.declared.recipes.Right.TheVariants.{Zeros, Sign}
 
 -- one list, on operands that are as wide, or that are extended by zeros, and a signed immediate
 abbrev pub of_two : Listed → Recipe
@@ -101,6 +104,8 @@ recipe_for (Opm Vmadd) = Some (ordered (Products Macc) Exchanged)
 recipe_for (Opm Vnmsub) = Some (ordered (Products Nmsac) Exchanged)
 recipe_for (Opi Vnsrl) = Some (of_unsigned (Halves Srl))
 recipe_for (Opi Vnsra) = Some (of_unsigned (Halves Sra))
+recipe_for (Opi Vssrl) = Some (of_unsigned (Roundings Zeros))
+recipe_for (Opi Vssra) = Some (of_unsigned (Roundings Sign))
 recipe_for (Opm VzextVf2) = Some (ordered Copies Half)
 recipe_for (Opm VzextVf4) = Some (ordered Copies Quarter)
 recipe_for (Opm VsextVf2) = Some (on_signed Copies Half)
@@ -124,6 +129,11 @@ recipe_for _ = None
 
 -- ---- lists
 
+-- what moves a number to the right
+abbrev pub shift_of : Right → Shift
+shift_of Zeros = Srl
+shift_of Sign = Sra
+
 -- the list tells a truth of each element, and so makes the bits of a mask
 abbrev pub makes_bits : Listed → Bool
 makes_bits (Bits kind) = false
@@ -132,6 +142,7 @@ makes_bits (Truths kind) = true
 makes_bits (Choices kind) = false
 makes_bits (Shifts kind) = false
 makes_bits (Products kind) = false
+makes_bits (Roundings right) = false
 makes_bits (Divisions kind) = false
 makes_bits Copies = false
 makes_bits (Halves kind) = false
@@ -149,6 +160,7 @@ takes_row (Truths kind) = truth_takes_mask kind
 takes_row (Choices kind) = false
 takes_row (Shifts kind) = false
 takes_row (Products kind) = false
+takes_row (Roundings right) = false
 takes_row (Divisions kind) = false
 takes_row Copies = false
 takes_row (Halves kind) = false
@@ -181,6 +193,7 @@ list_of (Truths kind) w mode a b d to = truth_ops kind w (rows mode a b d to)
 list_of (Choices kind) w mode a b d to = choice_ops kind w (rows mode a b d to)
 list_of (Shifts kind) w mode a b d to = shift_ops kind w (log2 w) (rows mode a b d to)
 list_of (Products kind) w mode a b d to = product_ops kind w (rows mode a b d to)
+list_of (Roundings right) w mode a b d to = rounded_ops (shift_of right) w (log2 w) (rows mode a b d to)
 list_of (Divisions kind) w mode a b d to = division_ops kind w (rows mode a b d to)
 list_of Copies w mode a b d to = micros w (commit w a to)
 list_of (Halves kind) w mode a b d to = raw_ops kind (2 * w) (log2 (2 * w)) (rows mode a b d to)
@@ -197,6 +210,7 @@ value_of (Truths kind) w mode a b d m = 0
 value_of (Choices kind) w mode a b d m = choice_value kind w a b
 value_of (Shifts kind) w mode a b d m = shift_value kind w (log2 w) a b
 value_of (Products kind) w mode a b d m = product_value kind w a b d
+value_of (Roundings right) w mode a b d m = rounded_value (shift_of right) mode w (log2 w) a b
 value_of (Divisions kind) w mode a b d m = division_value kind w a b
 value_of Copies w mode a b d m = a
 value_of (Halves kind) w mode a b d m = shift_value kind (2 * w) (log2 (2 * w)) a b
@@ -214,6 +228,7 @@ tells_clips (Truths kind) = false
 tells_clips (Choices kind) = false
 tells_clips (Shifts kind) = false
 tells_clips (Products kind) = false
+tells_clips (Roundings right) = false
 tells_clips (Divisions kind) = false
 tells_clips Copies = false
 tells_clips (Halves kind) = false
@@ -230,6 +245,7 @@ counts_of (Truths kind) w mode = truth_counts kind w
 counts_of (Choices kind) w mode = choice_counts w
 counts_of (Shifts kind) w mode = shift_counts kind w (log2 w)
 counts_of (Products kind) w mode = product_counts kind w
+counts_of (Roundings right) w mode = rounded_counts (shift_of right) mode w (log2 w)
 counts_of (Divisions kind) w mode = division_counts kind w
 counts_of Copies w mode = counts 2 2 0
 counts_of (Halves kind) w mode = raw_counts kind (2 * w) (log2 (2 * w))
@@ -242,6 +258,7 @@ length_of (Truths kind) w mode = truth_length kind w
 length_of (Choices kind) w mode = choice_length w
 length_of (Shifts kind) w mode = shift_length kind w (log2 w)
 length_of (Products kind) w mode = product_length kind w
+length_of (Roundings right) w mode = rounded_length (shift_of right) mode w (log2 w)
 length_of (Divisions kind) w mode = division_length kind w
 length_of Copies w mode = 4
 length_of (Halves kind) w mode = raw_length kind (2 * w) (log2 (2 * w))

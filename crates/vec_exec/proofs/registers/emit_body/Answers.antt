@@ -17,6 +17,9 @@ emit_list-requires-clause-rows g c = rw (c.use_of-list.ensures.list, c.place-at.
 pub emit_list-requires-clause-addend : goal.emit_list-requires-clause-addend
 emit_list-requires-clause-addend g c = rw c.place-at.ensures.addend (inl c.requires.placed.addend)
 
+pub emit_list-requires-clause-mode : goal.emit_list-requires-clause-mode
+emit_list-requires-clause-mode g c = rw c.place-at.ensures.mode c.requires.placed.mode
+
 pub emit_list-requires-clause-room : goal.emit_list-requires-clause-room
 emit_list-requires-clause-room g c =
     rw (c.use_of-list.ensures.list, c.place-at.ensures.mode) (omega (arith, rw c.requires.width at c.requires.room, c.emit_first.ensures.spare, c.emit_second.ensures.spare))
