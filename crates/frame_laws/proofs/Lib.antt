@@ -5,5 +5,6 @@ pub mod Windows
 pub mod Registers
 pub mod Costs
 pub mod Bytes
+pub mod Clips
 pub mod Masks
 pub mod Classes

@@ -7,5 +7,6 @@ pub mod Realising
 pub mod Laws
 pub mod Costs
 pub mod Bytes
+pub mod Clips
 pub mod Masks
 pub mod Classes

@@ -1,7 +1,7 @@
 // The laws of the classes of vector instructions, by the operands that they read.
-ghost use Rattle.frame_laws.specs.Classes.Plain.{PlainLaw, PlainBytesLaw};
+ghost use Rattle.frame_laws.specs.Classes.Plain.{PlainLaw, PlainBytesLaw, PlainClipLaw};
 ghost use Rattle.frame_laws.specs.Classes.Compared.{ComparedBytesLaw};
-ghost use Rattle.frame_laws.specs.Classes.Halved.{HalvedLaw, HalvedBytesLaw};
+ghost use Rattle.frame_laws.specs.Classes.Halved.{HalvedLaw, HalvedBytesLaw, HalvedClipLaw};
 
 /// The program of an instruction on elements at the same place, as wide or narrower, leaves the registers of its meaning.
 pub fn plain_law()
@@ -11,6 +11,11 @@ pub fn plain_law()
 /// The same on registers that are lists of bytes.
 pub fn plain_bytes_law()
     ensures law { PlainBytesLaw }
+{}
+
+/// Its program sets the flag exactly where an active element is clipped.
+pub fn plain_clip_law()
+    ensures law { PlainClipLaw }
 {}
 
 /// The program of an instruction that makes a mask from two operands leaves the registers of its meaning.
@@ -27,4 +32,9 @@ pub fn halved_law()
 /// The same on registers that are lists of bytes.
 pub fn halved_bytes_law()
     ensures law { HalvedBytesLaw }
+{}
+
+/// Its program sets the flag exactly where an active element is clipped.
+pub fn halved_clip_law()
+    ensures law { HalvedClipLaw }
 {}

@@ -1,5 +1,6 @@
 // The laws of the frame of the instructions that write a group of registers.
 ghost use Rattle.frame_laws.specs.Bytes.{BytesLaw, BitsLaw};
+ghost use Rattle.frame_laws.specs.Clips.{ClipLaw};
 ghost use Rattle.frame_laws.specs.Laws.{FrameLaw, GroupLaw};
 ghost use Rattle.frame_laws.specs.Shapes.{UsualBoundsLaw};
 ghost use Rattle.frame_laws.specs.Costs.{TallyLaw, EvenTallyLaw, LengthLaw, RangeLaw};
@@ -48,4 +49,10 @@ pub fn length_law()
 /// A chain can run a program whose lists it can run.
 pub fn range_law()
     ensures law { RangeLaw }
+{}
+
+/// The program of an instruction whose lists tell which results they clip sets the flag exactly where an active element is
+/// clipped.
+pub fn clip_law()
+    ensures law { ClipLaw }
 {}

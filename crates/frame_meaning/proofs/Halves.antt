@@ -20,7 +20,7 @@ use Rattle.vtype_cfg.specs.declared.vtype.Vtype.{Vtype}
 use Rattle.vtype_cfg.specs.Settings.{Setting, settings, is_vill_or_supported, vlmax}
 use Rattle.vtype_cfg.specs.Classes.{Class, Row, class_of, row_of, count_at, narrowing, group as group_place}
 use Rattle.vtype_cfg.proofs.Supported.{at_supported}
-use Rattle.rvv_meaning.specs.Elementwise.{makes_mask, registers_after}
+use Rattle.rvv_meaning.specs.Elementwise.{Elementwise, makes_mask, registers_after}
 use Rattle.rvv_meaning.specs.Operations.{Operation, reads_mask, immediate_bits, elements_at, on_elements}
 use Rattle.rvv_meaning.specs.Operations as meaning
 use Rattle.legal_groups.specs.Facts.{IsElementWidth, registers_for, is_read_for, ReadBeside, GroupWritten}
@@ -156,12 +156,12 @@ module _ (o : Operation) (i : VInstr) (c : Cfg) (x : ℕ) where
           not_mask = λ t. facts.spares_mask (no_mask o.takes_mask i.vm t);
         }
 
-  bounded : Bounded shape (usual_bounds shape)
+  pub bounded : Bounded shape (usual_bounds shape)
   unfolding half_shape half_elements elements_at
   bounded =
       usual_bounds_law shape refl (λ t. ltb-true c.vstart c.vl (and_parts (ltb c.vstart c.vl) (makes_mask (half_elements i c x o) || c.vtype.vta) t).0)
 
-  halved : (s : Slices) → IsOfHalves o → Runs i c s → c.vl ≤ vlmax c.vtype c.vlen → class_of i.op ≡ narrowing
+  pub halved : (s : Slices) → IsOfHalves o → Runs i c s → c.vl ≤ vlmax c.vtype c.vlen → class_of i.op ≡ narrowing
       → IsHalved shape (half_operands i c.vtype.sew) (half_value_in c o) (half_count c.vtype) s.columns
   unfolding half_shape half_elements elements_at row_of
   halved s of runs short class =
@@ -203,7 +203,7 @@ module _ (o : Operation) (i : VInstr) (c : Cfg) (x : ℕ) where
       few vt = elim (nat_lt vt.lmul8 8) as (λ b. cond b 1 2 ≤ 2) [ true ↦ omega arith | false ↦ omega arith ]
 
   -- the value of the operands that stand in the rows is that of the operands of the meaning
-  value-here : (v : List (List ℕ)) (e : ℕ) → IsOfHalves o → 8 ≤ c.vtype.sew → i.vs1 < 32 → half_value shape (half_operands i c.vtype.sew) (half_value_in c o) v e ≡ (half_elements i c x o).value v e
+  pub value-here : (v : List (List ℕ)) (e : ℕ) → IsOfHalves o → 8 ≤ c.vtype.sew → i.vs1 < 32 → half_value shape (half_operands i c.vtype.sew) (half_value_in c o) v e ≡ (half_elements i c x o).value v e
   unfolding half_shape half_elements elements_at
   value-here v e of least small =
       let w = c.vtype.sew in
@@ -217,12 +217,12 @@ module _ (o : Operation) (i : VInstr) (c : Cfg) (x : ℕ) where
       ∙ sym (of.ignores w c.vxrm (meaning.operand_a i c x at o v e) (meaning.operand_b i c x at o v e) d m)
 
   -- what the instruction writes is what it means
-  meant : (v : List (List ℕ)) → class_of i.op ≡ narrowing → registers_after c (half_elements i c x o) v ≡ registers_after c (on_elements i c x o) v
+  pub half-elements-are : class_of i.op ≡ narrowing → half_elements i c x o ≡ on_elements i c x o
   unfolding half_elements elements_at
-  meant v class =
+  half-elements-are class =
       let once : count_at c.vtype (group_place c.vtype.sew) ≡ registers_for c.vtype c.vtype.sew = omega arith in
-      ap (λ (n : ℕ). registers_after c (record (elements_at i c x (half_row c.vtype.sew) o) { registers = n; width = c.vtype.sew }) v) (sym once)
-      ∙ ap (λ (at : Row). registers_after c (elements_at i c x at o) v) (sym (row-of-class (class_of i.op) c.vtype.sew i class))
+      ap (λ (n : ℕ). record (elements_at i c x (half_row c.vtype.sew) o) { registers = n; width = c.vtype.sew }) (sym once)
+      ∙ ap (λ (at : Row). elements_at i c x at o) (sym (row-of-class (class_of i.op) c.vtype.sew i class))
 
   whole-elements : 8 ≤ c.vtype.sew → makes_mask (half_elements i c x o) ≡ false
   unfolding half_elements
@@ -240,7 +240,7 @@ halves_meaning_law o i c x lists s of runs short class leave =
     halved_bytes_law sh (usual_bounds sh) (half_operands i c.vtype.sew) (half_value_in c o) lists (half_count c.vtype) s (halved o i c x s of runs short class) (bounded o i c x) leave runs.some
     ∙ ap (λ (f : ℕ → ℕ). frame.registers_after sh f v) (λ n e. value-here o i c x v e of least runs.immediate n)
     ∙ meaning_law c (half_elements i c x o) (reads_mask i o) (has_scalar i.form) (half_scalar i c.vtype.sew x) (2 * c.vtype.sew) sh.result v (whole-elements o i c x least)
-    ∙ meant o i c x v class
+    ∙ ap (λ (e : Elementwise). registers_after c e v) (half-elements-are o i c x class)
 
 pub halves_cost_law : HalvesCostLaw
 unfolding half_program_in half_shape half_elements elements_at cost_of length_of

@@ -18,7 +18,7 @@ use Rattle.vtype_cfg.specs.Settings.{Setting, settings, is_vill_or_supported}
 use Rattle.vtype_cfg.specs.Legality.{is_legal}
 use Rattle.vtype_cfg.proofs.Supported.{at_supported}
 use Rattle.vtype_cfg.specs.Classes.{Class, Row, class_of, row_of, width_at, count_at, group as group_place}
-use Rattle.rvv_meaning.specs.Elementwise.{makes_mask, registers_after}
+use Rattle.rvv_meaning.specs.Elementwise.{Elementwise, makes_mask, registers_after}
 use Rattle.rvv_meaning.specs.Operations.{Operation, reads_mask, elements_at, on_elements}
 use Rattle.rvv_meaning.specs.Operations as meaning
 use Rattle.legal_groups.specs.Facts.{IsElementWidth, registers_for, is_read_for, ReadBeside, GroupWritten}
@@ -213,7 +213,7 @@ module _ (order : Order) (o : Operation) (i : VInstr) (c : Cfg) (x : ℕ) where
         let room = facts.place.room in
         (omega arith, inr (omega arith))
 
-  bounded : Bounded shape (usual_bounds shape)
+  pub bounded : Bounded shape (usual_bounds shape)
   unfolding shape_in elements_in elements_at
   bounded =
       usual_bounds_law shape refl (λ t. ltb-true c.vstart c.vl (and_parts (ltb c.vstart c.vl) (makes_mask (elements_in order i c x o) || c.vtype.vta) t).0)
@@ -342,7 +342,7 @@ same-value order o i c x v e d m same cut least small =
     ∙ ap (λ (z : ℕ). o.value w c.vxrm (meaning.operand_a i c x at o v e) z d m) (second-value order i c x at o i.form v e same cut refl refl least small)
 
 -- the value of the operands that stand in the rows is that of the operands of the meaning
-values : (order : Order) (o : Operation) (i : VInstr) (c : Cfg) (x : ℕ) (v : List (List ℕ)) (e : ℕ) → Ignores order o → 8 ≤ c.vtype.sew → i.vs1 < 32
+pub values : (order : Order) (o : Operation) (i : VInstr) (c : Cfg) (x : ℕ) (v : List (List ℕ)) (e : ℕ) → Ignores order o → 8 ≤ c.vtype.sew → i.vs1 < 32
     → plain_value (shape_in order i c x o) (operands_in order (signs_of o) i c.vtype.sew) (value_in order i c o) v e ≡ (elements_in order i c x o).value v e
 unfolding shape_in elements_in elements_at
 values Straight o i c x v e ignores least small =
@@ -412,13 +412,12 @@ vd-count : (order : Order) (c : Cfg) → count_at c.vtype (row_in order c.vtype.
 vd-count order c = rw (row-vd order c.vtype.sew) (omega arith)
 
 -- what the instruction writes, with the registers of its destination, is what it means
-meant : (order : Order) (o : Operation) (i : VInstr) (c : Cfg) (x : ℕ) (v : List (List ℕ)) → class_of i.op ≡ class_in order
-    → registers_after c (elements_in order i c x o) v ≡ registers_after c (on_elements i c x o) v
+pub elements-are : (order : Order) (o : Operation) (i : VInstr) (c : Cfg) (x : ℕ) → class_of i.op ≡ class_in order → elements_in order i c x o ≡ on_elements i c x o
 unfolding elements_in elements_at
-meant order o i c x v class =
-    ap (λ (n : ℕ). registers_after c (record (elements_at i c x (row_in order c.vtype.sew) o) { registers = n; width = width_in order c.vtype.sew }) v) (sym (vd-count order c))
-    ∙ ap (λ (w : ℕ). registers_after c (record (elements_at i c x (row_in order c.vtype.sew) o) { width = w }) v) (sym (vd-width order c))
-    ∙ ap (λ (at : Row). registers_after c (elements_at i c x at o) v) (sym (row-of-class order (class_of i.op) c.vtype.sew i class))
+elements-are order o i c x class =
+    ap (λ (n : ℕ). record (elements_at i c x (row_in order c.vtype.sew) o) { registers = n; width = width_in order c.vtype.sew }) (sym (vd-count order c))
+    ∙ ap (λ (w : ℕ). record (elements_at i c x (row_in order c.vtype.sew) o) { width = w }) (sym (vd-width order c))
+    ∙ ap (λ (at : Row). elements_at i c x at o) (sym (row-of-class order (class_of i.op) c.vtype.sew i class))
 
 -- the results are no bits of a mask
 whole-elements : (order : Order) (o : Operation) (i : VInstr) (c : Cfg) (x : ℕ) → 8 ≤ width_in order c.vtype.sew → makes_mask (elements_in order i c x o) ≡ false
@@ -442,7 +441,7 @@ elements_meaning_law order o i c x body s ignores runs class is =
     plain_bytes_law sh (usual_bounds sh) with value body s plain (bounded order o i c x) is runs.some w.whole
     ∙ ap (λ (f : ℕ → ℕ). frame.registers_after sh f v) (λ n e. values order o i c x v e ignores least runs.immediate n)
     ∙ meaning_law c (elements_in order i c x o) (reads_mask i o) (has_scalar i.form) (scalar_of order signs i c.vtype.sew x) (width_in order c.vtype.sew) sh.result v (whole-elements order o i c x w.least)
-    ∙ meant order o i c x v class
+    ∙ ap (λ (e : Elementwise). registers_after c e v) (elements-are order o i c x class)
 
 pub elements_cost_law : ElementsCostLaw
 unfolding program_in shape_in elements_in elements_at cost_of length_of

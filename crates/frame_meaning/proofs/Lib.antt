@@ -4,3 +4,4 @@ pub mod OperandWidths
 pub mod Instructions
 pub mod Masks
 pub mod Halves
+pub mod Clips

@@ -4,3 +4,5 @@ pub mod Laws
 pub mod Costs
 pub mod Masks
 pub mod Halves
+pub mod Clips
+pub mod Realising

@@ -2,6 +2,7 @@
 //! registers that they mean. It holds no code that runs; each function here is a law.
 #![tactic(auto)]
 
+ghost use Rattle.frame_meaning.specs.Clips.{ElementsClipLaw, HalvesClipLaw};
 ghost use Rattle.frame_meaning.specs.Costs.{ElementsCostLaw};
 ghost use Rattle.frame_meaning.specs.Laws.{MeaningLaw, MaskMeaningLaw, ElementsMeaningLaw};
 ghost use Rattle.frame_meaning.specs.Halves.{HalvesMeaningLaw, HalvesCostLaw};
@@ -54,6 +55,11 @@ pub fn elements_meaning_law()
     ensures law { ElementsMeaningLaw }
 {}
 
+/// It sets the flag of clipped results where the instruction clips an active element.
+pub fn elements_clip_law()
+    ensures law { ElementsClipLaw }
+{}
+
 /// What the program of such an instruction costs, and that a chain can run it.
 pub fn elements_cost_law()
     ensures law { ElementsCostLaw }
@@ -78,4 +84,9 @@ pub fn halves_meaning_law()
 /// What the program of such an instruction costs, and that a chain can run it.
 pub fn halves_cost_law()
     ensures law { HalvesCostLaw }
+{}
+
+/// It sets the flag of clipped results where the instruction clips an active element.
+pub fn halves_clip_law()
+    ensures law { HalvesClipLaw }
 {}

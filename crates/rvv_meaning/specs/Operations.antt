@@ -1,9 +1,10 @@
 -- Operations whose elements are computed from elements at the same place: their values and their operands (vector extension
 -- 1.0, sections 10.1, 11 and 12).
-use Rattle.std.specs.Prelude.{ℕ, ◌+◌, ◌-◌, ◌*◌, ◌/◌, ◌%◌, ◌^◌, Bool, true, false, cond, not, ◌&&◌, eqb, ℤ, pos, negsuc, ◌*ℤ◌, int_lt, int_le, int_div, int_rem, bit_and, bit_or, bit_xor, List, Option, None, Some}
+use Rattle.std.specs.Prelude.{ℕ, ◌+◌, ◌-◌, ◌*◌, ◌/◌, ◌%◌, ◌^◌, Bool, true, false, cond, not, ◌&&◌, eqb, ℤ, pos, ◌+ℤ◌, ◌-ℤ◌, ◌*ℤ◌, int_lt, int_le, int_div, int_rem, bit_and, bit_or, bit_xor, List, Option, None, Some}
 use Rattle.std.specs.Int.{from_bool, int_shr, int_div_euclid}
 use lib.Dec.{ltb, leb}
 use Rattle.bit_laws.specs.Numbers.{low}
+use Rattle.bit_laws.specs.Rounding.{low_int, rounded, clipped, clips, clipped_unsigned, clips_unsigned}
 use Rattle.bit_laws.specs.Signed.{signed, extended}
 use Rattle.element_ops.specs.Elements.{element_of, mask_bit_of}
 use Rattle.rvv_decode.specs.declared.instruction.VInstr.{VInstr}
@@ -11,7 +12,7 @@ use Rattle.rvv_decode.specs.declared.instruction.VOp.{VOp}
 use Rattle.rvv_decode.specs.declared.instruction.VOp.TheVariants.{Opi, Opm}
 use Rattle.rvv_decode.specs.declared.instruction.Form.{Form}
 use Rattle.rvv_decode.specs.declared.instruction.Form.TheVariants.{V, X, I}
-use Rattle.rvv_decode.specs.declared.instruction.OpiOp.TheVariants.{Vadd, Vsub, Vrsub, Vadc, Vsbc, Vmadc, Vmsbc, Vand, Vor, Vxor, Vsll, Vsrl, Vsra, Vmseq, Vmsne, Vmsltu, Vmslt, Vmsleu, Vmsle, Vmsgtu, Vmsgt, Vminu, Vmin, Vmaxu, Vmax, Vmerge, VmvV, Vnsrl, Vnsra}
+use Rattle.rvv_decode.specs.declared.instruction.OpiOp.TheVariants.{Vadd, Vsub, Vrsub, Vadc, Vsbc, Vmadc, Vmsbc, Vand, Vor, Vxor, Vsll, Vsrl, Vsra, Vmseq, Vmsne, Vmsltu, Vmslt, Vmsleu, Vmsle, Vmsgtu, Vmsgt, Vminu, Vmin, Vmaxu, Vmax, Vmerge, VmvV, Vnsrl, Vnsra, Vssrl, Vssra}
 use Rattle.rvv_decode.specs.declared.instruction.OpmOp.TheVariants.{VzextVf2, VzextVf4, VsextVf2, VsextVf4, Vwaddu, Vwadd, Vwsubu, Vwsub, VwadduW, VwaddW, VwsubuW, VwsubW, Vwmulu, Vwmulsu, Vwmul, Vwmaccu, Vwmacc, Vwmaccus, Vwmaccsu, Vdivu, Vdiv, Vremu, Vrem, Vmulhu, Vmul, Vmulhsu, Vmulh, Vmadd, Vnmsub, Vmacc, Vnmsac}
 use Rattle.vtype_cfg.specs.declared.configuration.Cfg.{Cfg}
 use Rattle.vtype_cfg.specs.Classes.{Row, class_of, row_of, width_at, count_at, is_mask_place}
@@ -63,11 +64,6 @@ vor w a b = bit_or a b
 -- bitwise exclusive or (section 11.5)
 abbrev pub vxor : (w a b : ℕ) → ℕ
 vxor w a b = bit_xor a b
-
--- what is left of a number with a sign modulo 2^w
-abbrev pub low_int : (w : ℕ) → ℤ → ℕ
-low_int w (pos n) = low w n
-low_int w (negsuc n) = 2 ^ w - 1 - low w n
 
 -- the logarithm of the width of an element, to the base 2
 abbrev pub log2 : (w : ℕ) → ℕ
@@ -203,6 +199,79 @@ vmerge w a b m = cond m b a
 abbrev pub vmv : (w a b : ℕ) → ℕ
 vmv w a b = b
 
+-- ---- values in fixed point
+
+-- Each of these takes besides, after w, the rounding mode; and beside a value that is clipped stands whether it was.
+
+-- the sum, clipped, without signs and with signs (section 12.1)
+abbrev pub vsaddu : (w mode a b : ℕ) → ℕ
+vsaddu w mode a b = low_int w (clipped_unsigned w (pos a +ℤ pos b))
+
+abbrev pub vsaddu_clips : (w mode a b : ℕ) → Bool
+vsaddu_clips w mode a b = clips_unsigned w (pos a +ℤ pos b)
+
+abbrev pub vsadd : (w mode a b : ℕ) → ℕ
+vsadd w mode a b = low_int w (clipped w (signed w a +ℤ signed w b))
+
+abbrev pub vsadd_clips : (w mode a b : ℕ) → Bool
+vsadd_clips w mode a b = clips w (signed w a +ℤ signed w b)
+
+-- the difference, clipped, without signs and with signs (section 12.1)
+abbrev pub vssubu : (w mode a b : ℕ) → ℕ
+vssubu w mode a b = low_int w (clipped_unsigned w (pos a -ℤ pos b))
+
+abbrev pub vssubu_clips : (w mode a b : ℕ) → Bool
+vssubu_clips w mode a b = clips_unsigned w (pos a -ℤ pos b)
+
+abbrev pub vssub : (w mode a b : ℕ) → ℕ
+vssub w mode a b = low_int w (clipped w (signed w a -ℤ signed w b))
+
+abbrev pub vssub_clips : (w mode a b : ℕ) → Bool
+vssub_clips w mode a b = clips w (signed w a -ℤ signed w b)
+
+-- half of the sum, rounded, without signs and with signs (section 12.2)
+abbrev pub vaaddu : (w mode a b : ℕ) → ℕ
+vaaddu w mode a b = low_int w (rounded mode (pos a +ℤ pos b) 1)
+
+abbrev pub vaadd : (w mode a b : ℕ) → ℕ
+vaadd w mode a b = low_int w (rounded mode (signed w a +ℤ signed w b) 1)
+
+-- half of the difference, rounded, modulo 2^w, without signs and with signs (section 12.2)
+abbrev pub vasubu : (w mode a b : ℕ) → ℕ
+vasubu w mode a b = low_int w (rounded mode (pos a -ℤ pos b) 1)
+
+abbrev pub vasub : (w mode a b : ℕ) → ℕ
+vasub w mode a b = low_int w (rounded mode (signed w a -ℤ signed w b) 1)
+
+-- the product over 2^(w - 1), rounded and clipped (section 12.3)
+abbrev pub vsmul : (w mode a b : ℕ) → ℕ
+vsmul w mode a b = low_int w (clipped w (rounded mode (signed w a *ℤ signed w b) (w - 1)))
+
+abbrev pub vsmul_clips : (w mode a b : ℕ) → Bool
+vsmul_clips w mode a b = clips w (rounded mode (signed w a *ℤ signed w b) (w - 1))
+
+-- shifts to the right that round, by the low bits of b, as many as the logarithm of the width: with zeros coming in, and with
+-- the sign coming in (section 12.4)
+abbrev pub vssrl : (w mode a b : ℕ) → ℕ
+vssrl w mode a b = low_int w (rounded mode (pos a) (low (log2 w) b))
+
+abbrev pub vssra : (w mode a b : ℕ) → ℕ
+vssra w mode a b = low_int w (rounded mode (signed w a) (low (log2 w) b))
+
+-- shifts to the right of an a that is twice as wide, by the low bits of b, as many as the logarithm of that width, rounded and
+-- then clipped, without signs and with signs (section 12.5)
+abbrev pub vnclipu : (w mode a b : ℕ) → ℕ
+vnclipu w mode a b = low_int w (clipped_unsigned w (rounded mode (pos a) (low (log2 (2 * w)) b)))
+
+abbrev pub vnclipu_clips : (w mode a b : ℕ) → Bool
+vnclipu_clips w mode a b = clips_unsigned w (rounded mode (pos a) (low (log2 (2 * w)) b))
+
+abbrev pub vnclip : (w mode a b : ℕ) → ℕ
+vnclip w mode a b = low_int w (clipped w (rounded mode (signed (2 * w) a) (low (log2 (2 * w)) b)))
+
+abbrev pub vnclip_clips : (w mode a b : ℕ) → Bool
+vnclip_clips w mode a b = clips w (rounded mode (signed (2 * w) a) (low (log2 (2 * w)) b))
+
 -- ---- operations
 
 -- an immediate has this many bits
@@ -260,6 +329,18 @@ of_two_and_mask value = record (of_two (λ w a b. 0)) { takes_mask = true; value
 -- an operation on these and the element of the destination
 abbrev pub of_three : ((w a b d : ℕ) → ℕ) → Operation
 of_three value = record (of_two (λ w a b. 0)) { takes_old = true; value = λ w mode a b d m. value w a b d }
+
+-- an operation on two operands that rounds, whose immediate has a sign
+abbrev pub of_rounding : ((w mode a b : ℕ) → ℕ) → Operation
+of_rounding value = record (of_two (λ w a b. 0)) { value = λ w mode a b d m. value w mode a b }
+
+-- the same, and it clips its results
+abbrev pub of_clipping : ((w mode a b : ℕ) → ℕ) → ((w mode a b : ℕ) → Bool) → Operation
+of_clipping value clipped = record (of_rounding value) { clips = λ w mode a b d m. clipped w mode a b }
+
+-- the same where an immediate has no sign
+abbrev pub without_sign : Operation → Operation
+without_sign o = record o { signed_immediate = false }
 
 -- the mask is an operand of the instruction
 abbrev pub reads_mask : VInstr → Operation → Bool
@@ -345,6 +426,8 @@ operation_for (Opi Vmerge) = Some (of_two_and_mask vmerge)
 operation_for (Opi VmvV) = Some (of_two vmv)
 operation_for (Opi Vnsrl) = Some (unsigned_immediate vnsrl)
 operation_for (Opi Vnsra) = Some (unsigned_immediate vnsra)
+operation_for (Opi Vssrl) = Some (without_sign (of_rounding vssrl))
+operation_for (Opi Vssra) = Some (without_sign (of_rounding vssra))
 operation_for (Opm VzextVf2) = Some (of_two vext)
 operation_for (Opm VzextVf4) = Some (of_two vext)
 operation_for (Opm VsextVf2) = Some (on_signed (of_two vext))

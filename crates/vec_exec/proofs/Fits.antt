@@ -2,28 +2,25 @@
 use Rattle.std.proofs.Common.{◌≡◌, ℕ, ◌+◌, ◌-◌, ◌*◌, ◌^◌, eqb, Bool, true, false, cond, leb, ltb, Option, Some, None, refl, ap, arith, mul_comm}
 use Rattle.std.specs.Prelude.{is_some, ℤ, pos, negsuc, ◌*ℤ◌, int_div, int_rem}
 use Rattle.std.specs.Int.{int_shr, int_div_euclid}
-use Rattle.rvv_decode.specs.declared.instruction.OpiOp.TheVariants.{Vadd, Vsub, Vrsub, Vadc, Vsbc, Vmadc, Vmsbc, Vand, Vor, Vxor, Vsll, Vsrl, Vsra, Vmseq, Vmsne, Vmsltu, Vmslt, Vmsleu, Vmsle, Vmsgtu, Vmsgt, Vminu, Vmin, Vmaxu, Vmax, Vmerge, VmvV, Vnsrl, Vnsra}
+use Rattle.rvv_decode.specs.declared.instruction.OpiOp.TheVariants.{Vadd, Vsub, Vrsub, Vadc, Vsbc, Vmadc, Vmsbc, Vand, Vor, Vxor, Vsll, Vsrl, Vsra, Vmseq, Vmsne, Vmsltu, Vmslt, Vmsleu, Vmsle, Vmsgtu, Vmsgt, Vminu, Vmin, Vmaxu, Vmax, Vmerge, VmvV, Vnsrl, Vnsra, Vssrl, Vssra}
 use Rattle.rvv_decode.specs.declared.instruction.OpmOp.TheVariants.{Vdivu, Vdiv, Vremu, Vrem, Vmulhu, Vmul, Vmulhsu, Vmulh, Vmadd, Vnmsub, Vmacc, Vnmsac, VzextVf2, VzextVf4, VsextVf2, VsextVf4, Vwaddu, Vwadd, Vwsubu, Vwsub, VwadduW, VwaddW, VwsubuW, VwsubW, Vwmulu, Vwmulsu, Vwmul, Vwmaccu, Vwmacc, Vwmaccus, Vwmaccsu}
-use Rattle.rvv_decode.specs.declared.instruction.ConfigOp.{ConfigOp}
-use Rattle.rvv_decode.specs.declared.instruction.MemoryOp.{MemoryOp}
 use Rattle.rvv_decode.specs.declared.instruction.VOp.{VOp}
 use Rattle.rvv_decode.specs.declared.instruction.VOp.TheVariants.{Opi, Opm, Config, Memory}
 use Rattle.vtype_cfg.specs.Classes.{Class, class_of, opi_class, opm_class, compare, narrowing}
 use Rattle.bit_laws.specs.Numbers.{low}
 use Rattle.bit_laws.specs.Signed.{signed}
-use Rattle.bit_laws.specs.Rounding as rounding
-use Rattle.rvv_meaning.specs.Operations.{low_int, log2, Operation, operation_for}
-use Rattle.rvv_meaning.specs.Vectors.{is_built}
+use Rattle.rvv_meaning.specs.Operations.{log2, Operation, operation_for}
 use Rattle.frame_meaning.specs.declared.Order.{Order}
 use Rattle.frame_meaning.specs.declared.Order.TheVariants.{Straight, Widening, WideSource, Half, Quarter}
 use Rattle.frame_meaning.specs.declared.Signs.{Signs}
+use Rattle.frame_meaning.specs.Clips.{flag_of, clips_by}
 use Rattle.frame_meaning.specs.Halves.{IsOfHalves}
 use Rattle.frame_meaning.specs.Laws.{Ignores}
 use Rattle.frame_meaning.specs.Masks.{IsTruth}
 use Rattle.frame_meaning.specs.Shapes.{class_in, signs_of, value_by}
 use Rattle.vec_exec.specs.declared.recipes.Listed.{Listed}
 use Rattle.vec_exec.specs.declared.recipes.Recipe.{Recipe}
-use Rattle.vec_exec.specs.Recipes.{recipe_for, makes_bits, makes_halves, takes_row, takes_laid, uses_wide_rows, value_of, truth_of}
+use Rattle.vec_exec.specs.Recipes.{recipe_for, makes_bits, makes_halves, takes_row, takes_laid, uses_wide_rows, value_of, truth_of, tells_clips, clips_of}
 
 -- ---- what a recipe and its operation have in common
 
@@ -58,7 +55,7 @@ pub record Traits : Type 0 where
   pub halves : Bool
   pub order_of_bits : Order
   pub class : Class
-  pub clips : (w mode a b d : ℕ) → Bool → Bool
+  pub tells : Bool
 
 abbrev pub traits_of : VOp → Recipe → Operation → Traits
 traits_of op r o = record {
@@ -74,7 +71,7 @@ traits_of op r o = record {
   halves = makes_halves r.plain;
   order_of_bits = cond (makes_bits r.masked) r.order Straight;
   class = class_of op;
-  clips = o.clips;
+  tells = tells_clips r.plain;
 }
 
 abbrev pub traits_wanted : Recipe → Operation → Traits
@@ -91,17 +88,17 @@ traits_wanted r o = record {
   halves = makes_halves r.masked;
   order_of_bits = Straight;
   class = cond (makes_bits r.masked) compare (cond (makes_halves r.masked) narrowing (class_in r.order));
-  clips = never;
+  tells = tells_clips r.masked;
 }
 
 -- the list with the mask computes the value, or tells the truth
 abbrev pub Means : (bits : Bool) → Recipe → Operation → Type 0
-Means false r o = (w mode a b d : ℕ) (m : Bool) → value_of r.masked w a b d m ≡ value_by r.order o w mode a b d m
+Means false r o = (w mode a b d : ℕ) (m : Bool) → value_of r.masked w mode a b d m ≡ value_by r.order o w mode a b d m
 Means true r o = IsTruth o (truth_of r.masked)
 
 -- the list without it is that with a mask bit of 0
 abbrev pub Unmasked : (bits : Bool) → (plain masked : Listed) → Type 0
-Unmasked false plain masked = (w a b d : ℕ) (m : Bool) → value_of plain w a b d m ≡ value_of masked w a b d false
+Unmasked false plain masked = (w mode a b d : ℕ) (m : Bool) → value_of plain w mode a b d m ≡ value_of masked w mode a b d false
 Unmasked true plain masked = (w a b : ℕ) (m : Bool) → truth_of plain w a b m ≡ truth_of masked w a b false
 
 -- the operation can be computed half by half
@@ -109,12 +106,24 @@ abbrev pub ForHalves : (halves : Bool) → Recipe → Operation → Type 0
 ForHalves false r o = Unit {0}
 ForHalves true r o = IsOfHalves o × (r.order ≡ Straight)
 
+-- the one list of an operation that clips tells what it clips
+pub record Clipping (r : Recipe) (o : Operation) : Type 0 where
+  pub takes : o.takes_mask ≡ false
+  pub plain : r.plain ≡ r.masked
+  pub ignores : Ignores r.order (flag_of o)
+  pub means : (w mode a b d : ℕ) → clips_of r.masked w mode a b d ≡ clips_by r.order o w mode a b d
+
+abbrev pub ForClips : (tells : Bool) → Recipe → Operation → Type 0
+ForClips false r o = o.clips ≡ never
+ForClips true r o = Clipping r o
+
 pub record Fits (op : VOp) (r : Recipe) (o : Operation) : Type 0 where
   pub same : traits_of op r o ≡ traits_wanted r o
   pub ignores : Ignores r.order o
   pub means : Means (makes_bits r.masked) r o
   pub unmasked : Unmasked (makes_bits r.masked) r.plain r.masked
   pub halves : ForHalves (makes_halves r.masked) r o
+  pub clips : ForClips (tells_clips r.masked) r o
 
 -- ---- each operation
 
@@ -123,11 +132,6 @@ FitsIf op None None = Unit {0}
 FitsIf op (Some r) (Some o) = Fits op r o
 FitsIf op (Some r) None = ⊥
 FitsIf op None (Some o) = ⊥
-
--- what is left of a number with a sign, in the words of the list and of the meaning
-same-low : (w : ℕ) (z : ℤ) → rounding.low_int w z ≡ low_int w z
-same-low w (pos n) = refl
-same-low w (negsuc n) = refl
 
 -- a product added to a third operand, and taken from it, in the order of the list and of the meaning
 added : (a b d : ℕ) → a * b + d ≡ b * a + d
@@ -138,66 +142,68 @@ taken w a b d = ap (λ (n : ℕ). d + (2 ^ w - low w n)) (mul_comm a b)
 
 fits : (op : VOp) → FitsIf op (recipe_for op) (operation_for op)
 unfolding recipe_for operation_for opi_class opm_class
-fits (Opi Vadd) = record { same = refl; ignores = tt; means = λ w mode a b d m. refl; unmasked = λ w a b d m. refl; halves = tt }
-fits (Opi Vsub) = record { same = refl; ignores = tt; means = λ w mode a b d m. refl; unmasked = λ w a b d m. refl; halves = tt }
-fits (Opi Vrsub) = record { same = refl; ignores = tt; means = λ w mode a b d m. refl; unmasked = λ w a b d m. refl; halves = tt }
-fits (Opi Vadc) = record { same = refl; ignores = tt; means = λ w mode a b d m. refl; unmasked = λ w a b d m. omega arith; halves = tt }
-fits (Opi Vsbc) = record { same = refl; ignores = tt; means = λ w mode a b d m. refl; unmasked = λ w a b d m. omega arith; halves = tt }
-fits (Opi Vmadc) = record { same = refl; ignores = tt; means = λ w mode a b d m. refl; unmasked = λ w a b m. let e : a + b ≡ a + b + 0 = omega arith in ap (leb (2 ^ w)) e; halves = tt }
-fits (Opi Vmsbc) = record { same = refl; ignores = tt; means = λ w mode a b d m. refl; unmasked = λ w a b m. let e : b ≡ b + 0 = omega arith in ap (ltb a) e; halves = tt }
-fits (Opi Vand) = record { same = refl; ignores = tt; means = λ w mode a b d m. refl; unmasked = λ w a b d m. refl; halves = tt }
-fits (Opi Vor) = record { same = refl; ignores = tt; means = λ w mode a b d m. refl; unmasked = λ w a b d m. refl; halves = tt }
-fits (Opi Vxor) = record { same = refl; ignores = tt; means = λ w mode a b d m. refl; unmasked = λ w a b d m. refl; halves = tt }
-fits (Opi Vsll) = record { same = refl; ignores = tt; means = λ w mode a b d m. refl; unmasked = λ w a b d m. refl; halves = tt }
-fits (Opi Vsrl) = record { same = refl; ignores = tt; means = λ w mode a b d m. refl; unmasked = λ w a b d m. refl; halves = tt }
-fits (Opi Vsra) = record { same = refl; ignores = tt; means = λ w mode a b d m. same-low w (int_shr (signed w a) (low (log2 w) b)); unmasked = λ w a b d m. refl; halves = tt }
-fits (Opi Vmseq) = record { same = refl; ignores = tt; means = λ w mode a b d m. refl; unmasked = λ w a b m. refl; halves = tt }
-fits (Opi Vmsne) = record { same = refl; ignores = tt; means = λ w mode a b d m. refl; unmasked = λ w a b m. refl; halves = tt }
-fits (Opi Vmsltu) = record { same = refl; ignores = tt; means = λ w mode a b d m. refl; unmasked = λ w a b m. refl; halves = tt }
-fits (Opi Vmslt) = record { same = refl; ignores = tt; means = λ w mode a b d m. refl; unmasked = λ w a b m. refl; halves = tt }
-fits (Opi Vmsleu) = record { same = refl; ignores = tt; means = λ w mode a b d m. refl; unmasked = λ w a b m. refl; halves = tt }
-fits (Opi Vmsle) = record { same = refl; ignores = tt; means = λ w mode a b d m. refl; unmasked = λ w a b m. refl; halves = tt }
-fits (Opi Vmsgtu) = record { same = refl; ignores = tt; means = λ w mode a b d m. refl; unmasked = λ w a b m. refl; halves = tt }
-fits (Opi Vmsgt) = record { same = refl; ignores = tt; means = λ w mode a b d m. refl; unmasked = λ w a b m. refl; halves = tt }
-fits (Opi Vminu) = record { same = refl; ignores = tt; means = λ w mode a b d m. refl; unmasked = λ w a b d m. refl; halves = tt }
-fits (Opi Vmin) = record { same = refl; ignores = tt; means = λ w mode a b d m. refl; unmasked = λ w a b d m. refl; halves = tt }
-fits (Opi Vmaxu) = record { same = refl; ignores = tt; means = λ w mode a b d m. refl; unmasked = λ w a b d m. refl; halves = tt }
-fits (Opi Vmax) = record { same = refl; ignores = tt; means = λ w mode a b d m. refl; unmasked = λ w a b d m. refl; halves = tt }
-fits (Opi Vmerge) = record { same = refl; ignores = tt; means = λ w mode a b d m. refl; unmasked = λ w a b d m. refl; halves = tt }
-fits (Opi VmvV) = record { same = refl; ignores = λ w mode x y b d m. refl; means = λ w mode a b d m. refl; unmasked = λ w a b d m. refl; halves = tt }
-fits (Opi Vnsrl) = record { same = refl; ignores = tt; means = λ w mode a b d m. refl; unmasked = λ w a b d m. refl; halves = (record { ignores = λ w mode a b d m. refl; a = refl; b = refl; immediate = refl }, refl) }
-fits (Opi Vnsra) = record { same = refl; ignores = tt; means = λ w mode a b d m. same-low (2 * w) (int_shr (signed (2 * w) a) (low (log2 (2 * w)) b)); unmasked = λ w a b d m. refl; halves = (record { ignores = λ w mode a b d m. refl; a = refl; b = refl; immediate = refl }, refl) }
-fits (Opm Vmul) = record { same = refl; ignores = tt; means = λ w mode a b d m. refl; unmasked = λ w a b d m. refl; halves = tt }
-fits (Opm Vmulh) = record { same = refl; ignores = tt; means = λ w mode a b d m. same-low w (int_div_euclid (signed w a *ℤ signed w b) (pos (2 ^ w))); unmasked = λ w a b d m. refl; halves = tt }
-fits (Opm Vmulhu) = record { same = refl; ignores = tt; means = λ w mode a b d m. refl; unmasked = λ w a b d m. refl; halves = tt }
-fits (Opm Vmulhsu) = record { same = refl; ignores = tt; means = λ w mode a b d m. same-low w (int_div_euclid (signed w a *ℤ pos b) (pos (2 ^ w))); unmasked = λ w a b d m. refl; halves = tt }
-fits (Opm Vdivu) = record { same = refl; ignores = tt; means = λ w mode a b d m. refl; unmasked = λ w a b d m. refl; halves = tt }
-fits (Opm Vdiv) = record { same = refl; ignores = tt; means = λ w mode a b d m. ap (cond (eqb b 0) (2 ^ w - 1)) (same-low w (int_div (signed w a) (signed w b))); unmasked = λ w a b d m. refl; halves = tt }
-fits (Opm Vremu) = record { same = refl; ignores = tt; means = λ w mode a b d m. refl; unmasked = λ w a b d m. refl; halves = tt }
-fits (Opm Vrem) = record { same = refl; ignores = tt; means = λ w mode a b d m. ap (cond (eqb b 0) a) (same-low w (int_rem (signed w a) (signed w b))); unmasked = λ w a b d m. refl; halves = tt }
-fits (Opm Vmacc) = record { same = refl; ignores = tt; means = λ w mode a b d m. added a b d; unmasked = λ w a b d m. refl; halves = tt }
-fits (Opm Vnmsac) = record { same = refl; ignores = tt; means = λ w mode a b d m. taken w a b d; unmasked = λ w a b d m. refl; halves = tt }
-fits (Opm Vmadd) = record { same = refl; ignores = tt; means = λ w mode a b d m. added a b d; unmasked = λ w a b d m. refl; halves = tt }
-fits (Opm Vnmsub) = record { same = refl; ignores = tt; means = λ w mode a b d m. taken w a b d; unmasked = λ w a b d m. refl; halves = tt }
-fits (Opm VzextVf2) = record { same = refl; ignores = λ w mode a x y d m. refl; means = λ w mode a b d m. refl; unmasked = λ w a b d m. refl; halves = tt }
-fits (Opm VzextVf4) = record { same = refl; ignores = λ w mode a x y d m. refl; means = λ w mode a b d m. refl; unmasked = λ w a b d m. refl; halves = tt }
-fits (Opm VsextVf2) = record { same = refl; ignores = λ w mode a x y d m. refl; means = λ w mode a b d m. refl; unmasked = λ w a b d m. refl; halves = tt }
-fits (Opm VsextVf4) = record { same = refl; ignores = λ w mode a x y d m. refl; means = λ w mode a b d m. refl; unmasked = λ w a b d m. refl; halves = tt }
-fits (Opm Vwaddu) = record { same = refl; ignores = tt; means = λ w mode a b d m. refl; unmasked = λ w a b d m. refl; halves = tt }
-fits (Opm Vwadd) = record { same = refl; ignores = tt; means = λ w mode a b d m. refl; unmasked = λ w a b d m. refl; halves = tt }
-fits (Opm Vwsubu) = record { same = refl; ignores = tt; means = λ w mode a b d m. refl; unmasked = λ w a b d m. refl; halves = tt }
-fits (Opm Vwsub) = record { same = refl; ignores = tt; means = λ w mode a b d m. refl; unmasked = λ w a b d m. refl; halves = tt }
-fits (Opm VwadduW) = record { same = refl; ignores = tt; means = λ w mode a b d m. refl; unmasked = λ w a b d m. refl; halves = tt }
-fits (Opm VwaddW) = record { same = refl; ignores = tt; means = λ w mode a b d m. refl; unmasked = λ w a b d m. refl; halves = tt }
-fits (Opm VwsubuW) = record { same = refl; ignores = tt; means = λ w mode a b d m. refl; unmasked = λ w a b d m. refl; halves = tt }
-fits (Opm VwsubW) = record { same = refl; ignores = tt; means = λ w mode a b d m. refl; unmasked = λ w a b d m. refl; halves = tt }
-fits (Opm Vwmulu) = record { same = refl; ignores = tt; means = λ w mode a b d m. refl; unmasked = λ w a b d m. refl; halves = tt }
-fits (Opm Vwmulsu) = record { same = refl; ignores = tt; means = λ w mode a b d m. refl; unmasked = λ w a b d m. refl; halves = tt }
-fits (Opm Vwmul) = record { same = refl; ignores = tt; means = λ w mode a b d m. refl; unmasked = λ w a b d m. refl; halves = tt }
-fits (Opm Vwmaccu) = record { same = refl; ignores = tt; means = λ w mode a b d m. added a b d; unmasked = λ w a b d m. refl; halves = tt }
-fits (Opm Vwmacc) = record { same = refl; ignores = tt; means = λ w mode a b d m. added a b d; unmasked = λ w a b d m. refl; halves = tt }
-fits (Opm Vwmaccus) = record { same = refl; ignores = tt; means = λ w mode a b d m. added a b d; unmasked = λ w a b d m. refl; halves = tt }
-fits (Opm Vwmaccsu) = record { same = refl; ignores = tt; means = λ w mode a b d m. added a b d; unmasked = λ w a b d m. refl; halves = tt }
+fits (Opi Vadd) = record { same = refl; ignores = tt; means = λ w mode a b d m. refl; unmasked = λ w mode a b d m. refl; halves = tt; clips = refl }
+fits (Opi Vsub) = record { same = refl; ignores = tt; means = λ w mode a b d m. refl; unmasked = λ w mode a b d m. refl; halves = tt; clips = refl }
+fits (Opi Vrsub) = record { same = refl; ignores = tt; means = λ w mode a b d m. refl; unmasked = λ w mode a b d m. refl; halves = tt; clips = refl }
+fits (Opi Vadc) = record { same = refl; ignores = tt; means = λ w mode a b d m. refl; unmasked = λ w mode a b d m. omega arith; halves = tt; clips = refl }
+fits (Opi Vsbc) = record { same = refl; ignores = tt; means = λ w mode a b d m. refl; unmasked = λ w mode a b d m. omega arith; halves = tt; clips = refl }
+fits (Opi Vmadc) = record { same = refl; ignores = tt; means = λ w mode a b d m. refl; unmasked = λ w a b m. let e : a + b ≡ a + b + 0 = omega arith in ap (leb (2 ^ w)) e; halves = tt; clips = refl }
+fits (Opi Vmsbc) = record { same = refl; ignores = tt; means = λ w mode a b d m. refl; unmasked = λ w a b m. let e : b ≡ b + 0 = omega arith in ap (ltb a) e; halves = tt; clips = refl }
+fits (Opi Vand) = record { same = refl; ignores = tt; means = λ w mode a b d m. refl; unmasked = λ w mode a b d m. refl; halves = tt; clips = refl }
+fits (Opi Vor) = record { same = refl; ignores = tt; means = λ w mode a b d m. refl; unmasked = λ w mode a b d m. refl; halves = tt; clips = refl }
+fits (Opi Vxor) = record { same = refl; ignores = tt; means = λ w mode a b d m. refl; unmasked = λ w mode a b d m. refl; halves = tt; clips = refl }
+fits (Opi Vsll) = record { same = refl; ignores = tt; means = λ w mode a b d m. refl; unmasked = λ w mode a b d m. refl; halves = tt; clips = refl }
+fits (Opi Vsrl) = record { same = refl; ignores = tt; means = λ w mode a b d m. refl; unmasked = λ w mode a b d m. refl; halves = tt; clips = refl }
+fits (Opi Vsra) = record { same = refl; ignores = tt; means = λ w mode a b d m. refl; unmasked = λ w mode a b d m. refl; halves = tt; clips = refl }
+fits (Opi Vmseq) = record { same = refl; ignores = tt; means = λ w mode a b d m. refl; unmasked = λ w a b m. refl; halves = tt; clips = refl }
+fits (Opi Vmsne) = record { same = refl; ignores = tt; means = λ w mode a b d m. refl; unmasked = λ w a b m. refl; halves = tt; clips = refl }
+fits (Opi Vmsltu) = record { same = refl; ignores = tt; means = λ w mode a b d m. refl; unmasked = λ w a b m. refl; halves = tt; clips = refl }
+fits (Opi Vmslt) = record { same = refl; ignores = tt; means = λ w mode a b d m. refl; unmasked = λ w a b m. refl; halves = tt; clips = refl }
+fits (Opi Vmsleu) = record { same = refl; ignores = tt; means = λ w mode a b d m. refl; unmasked = λ w a b m. refl; halves = tt; clips = refl }
+fits (Opi Vmsle) = record { same = refl; ignores = tt; means = λ w mode a b d m. refl; unmasked = λ w a b m. refl; halves = tt; clips = refl }
+fits (Opi Vmsgtu) = record { same = refl; ignores = tt; means = λ w mode a b d m. refl; unmasked = λ w a b m. refl; halves = tt; clips = refl }
+fits (Opi Vmsgt) = record { same = refl; ignores = tt; means = λ w mode a b d m. refl; unmasked = λ w a b m. refl; halves = tt; clips = refl }
+fits (Opi Vminu) = record { same = refl; ignores = tt; means = λ w mode a b d m. refl; unmasked = λ w mode a b d m. refl; halves = tt; clips = refl }
+fits (Opi Vmin) = record { same = refl; ignores = tt; means = λ w mode a b d m. refl; unmasked = λ w mode a b d m. refl; halves = tt; clips = refl }
+fits (Opi Vmaxu) = record { same = refl; ignores = tt; means = λ w mode a b d m. refl; unmasked = λ w mode a b d m. refl; halves = tt; clips = refl }
+fits (Opi Vmax) = record { same = refl; ignores = tt; means = λ w mode a b d m. refl; unmasked = λ w mode a b d m. refl; halves = tt; clips = refl }
+fits (Opi Vmerge) = record { same = refl; ignores = tt; means = λ w mode a b d m. refl; unmasked = λ w mode a b d m. refl; halves = tt; clips = refl }
+fits (Opi VmvV) = record { same = refl; ignores = λ w mode x y b d m. refl; means = λ w mode a b d m. refl; unmasked = λ w mode a b d m. refl; halves = tt; clips = refl }
+fits (Opi Vnsrl) = record { same = refl; ignores = tt; means = λ w mode a b d m. refl; unmasked = λ w mode a b d m. refl; halves = (record { ignores = λ w mode a b d m. refl; a = refl; b = refl; immediate = refl }, refl); clips = refl }
+fits (Opi Vnsra) = record { same = refl; ignores = tt; means = λ w mode a b d m. refl; unmasked = λ w mode a b d m. refl; halves = (record { ignores = λ w mode a b d m. refl; a = refl; b = refl; immediate = refl }, refl); clips = refl }
+fits (Opi Vssrl) = record { same = refl; ignores = tt; means = λ w mode a b d m. refl; unmasked = λ w mode a b d m. refl; halves = tt; clips = refl }
+fits (Opi Vssra) = record { same = refl; ignores = tt; means = λ w mode a b d m. refl; unmasked = λ w mode a b d m. refl; halves = tt; clips = refl }
+fits (Opm Vmul) = record { same = refl; ignores = tt; means = λ w mode a b d m. refl; unmasked = λ w mode a b d m. refl; halves = tt; clips = refl }
+fits (Opm Vmulh) = record { same = refl; ignores = tt; means = λ w mode a b d m. refl; unmasked = λ w mode a b d m. refl; halves = tt; clips = refl }
+fits (Opm Vmulhu) = record { same = refl; ignores = tt; means = λ w mode a b d m. refl; unmasked = λ w mode a b d m. refl; halves = tt; clips = refl }
+fits (Opm Vmulhsu) = record { same = refl; ignores = tt; means = λ w mode a b d m. refl; unmasked = λ w mode a b d m. refl; halves = tt; clips = refl }
+fits (Opm Vdivu) = record { same = refl; ignores = tt; means = λ w mode a b d m. refl; unmasked = λ w mode a b d m. refl; halves = tt; clips = refl }
+fits (Opm Vdiv) = record { same = refl; ignores = tt; means = λ w mode a b d m. refl; unmasked = λ w mode a b d m. refl; halves = tt; clips = refl }
+fits (Opm Vremu) = record { same = refl; ignores = tt; means = λ w mode a b d m. refl; unmasked = λ w mode a b d m. refl; halves = tt; clips = refl }
+fits (Opm Vrem) = record { same = refl; ignores = tt; means = λ w mode a b d m. refl; unmasked = λ w mode a b d m. refl; halves = tt; clips = refl }
+fits (Opm Vmacc) = record { same = refl; ignores = tt; means = λ w mode a b d m. added a b d; unmasked = λ w mode a b d m. refl; halves = tt; clips = refl }
+fits (Opm Vnmsac) = record { same = refl; ignores = tt; means = λ w mode a b d m. taken w a b d; unmasked = λ w mode a b d m. refl; halves = tt; clips = refl }
+fits (Opm Vmadd) = record { same = refl; ignores = tt; means = λ w mode a b d m. added a b d; unmasked = λ w mode a b d m. refl; halves = tt; clips = refl }
+fits (Opm Vnmsub) = record { same = refl; ignores = tt; means = λ w mode a b d m. taken w a b d; unmasked = λ w mode a b d m. refl; halves = tt; clips = refl }
+fits (Opm VzextVf2) = record { same = refl; ignores = λ w mode a x y d m. refl; means = λ w mode a b d m. refl; unmasked = λ w mode a b d m. refl; halves = tt; clips = refl }
+fits (Opm VzextVf4) = record { same = refl; ignores = λ w mode a x y d m. refl; means = λ w mode a b d m. refl; unmasked = λ w mode a b d m. refl; halves = tt; clips = refl }
+fits (Opm VsextVf2) = record { same = refl; ignores = λ w mode a x y d m. refl; means = λ w mode a b d m. refl; unmasked = λ w mode a b d m. refl; halves = tt; clips = refl }
+fits (Opm VsextVf4) = record { same = refl; ignores = λ w mode a x y d m. refl; means = λ w mode a b d m. refl; unmasked = λ w mode a b d m. refl; halves = tt; clips = refl }
+fits (Opm Vwaddu) = record { same = refl; ignores = tt; means = λ w mode a b d m. refl; unmasked = λ w mode a b d m. refl; halves = tt; clips = refl }
+fits (Opm Vwadd) = record { same = refl; ignores = tt; means = λ w mode a b d m. refl; unmasked = λ w mode a b d m. refl; halves = tt; clips = refl }
+fits (Opm Vwsubu) = record { same = refl; ignores = tt; means = λ w mode a b d m. refl; unmasked = λ w mode a b d m. refl; halves = tt; clips = refl }
+fits (Opm Vwsub) = record { same = refl; ignores = tt; means = λ w mode a b d m. refl; unmasked = λ w mode a b d m. refl; halves = tt; clips = refl }
+fits (Opm VwadduW) = record { same = refl; ignores = tt; means = λ w mode a b d m. refl; unmasked = λ w mode a b d m. refl; halves = tt; clips = refl }
+fits (Opm VwaddW) = record { same = refl; ignores = tt; means = λ w mode a b d m. refl; unmasked = λ w mode a b d m. refl; halves = tt; clips = refl }
+fits (Opm VwsubuW) = record { same = refl; ignores = tt; means = λ w mode a b d m. refl; unmasked = λ w mode a b d m. refl; halves = tt; clips = refl }
+fits (Opm VwsubW) = record { same = refl; ignores = tt; means = λ w mode a b d m. refl; unmasked = λ w mode a b d m. refl; halves = tt; clips = refl }
+fits (Opm Vwmulu) = record { same = refl; ignores = tt; means = λ w mode a b d m. refl; unmasked = λ w mode a b d m. refl; halves = tt; clips = refl }
+fits (Opm Vwmulsu) = record { same = refl; ignores = tt; means = λ w mode a b d m. refl; unmasked = λ w mode a b d m. refl; halves = tt; clips = refl }
+fits (Opm Vwmul) = record { same = refl; ignores = tt; means = λ w mode a b d m. refl; unmasked = λ w mode a b d m. refl; halves = tt; clips = refl }
+fits (Opm Vwmaccu) = record { same = refl; ignores = tt; means = λ w mode a b d m. added a b d; unmasked = λ w mode a b d m. refl; halves = tt; clips = refl }
+fits (Opm Vwmacc) = record { same = refl; ignores = tt; means = λ w mode a b d m. added a b d; unmasked = λ w mode a b d m. refl; halves = tt; clips = refl }
+fits (Opm Vwmaccus) = record { same = refl; ignores = tt; means = λ w mode a b d m. added a b d; unmasked = λ w mode a b d m. refl; halves = tt; clips = refl }
+fits (Opm Vwmaccsu) = record { same = refl; ignores = tt; means = λ w mode a b d m. added a b d; unmasked = λ w mode a b d m. refl; halves = tt; clips = refl }
 fits (Opi _) = tt
 fits (Opm _) = tt
 fits (Config _) = tt
@@ -227,10 +233,3 @@ fitted op r named = from (operation_for op) refl (rw named at (fits op))
     from : (o : Option Operation) → operation_for op ≡ o → FitsIf op (Some r) o → Fitted op r
     from (Some o) is h = record { operation = o; is = is; fits = h }
     from None is h = absurd h
-
--- an operation of no configuration, load or store is built where it has a recipe
-pub built-by-recipe : (op : VOp) → ((config : ConfigOp) → op ≡ Config config → ⊥) → ((access : MemoryOp) → op ≡ Memory access → ⊥) → is_some (recipe_for op) ≡ is_built op
-built-by-recipe (Opi op) other apart = recipe-when-built (Opi op)
-built-by-recipe (Opm op) other apart = recipe-when-built (Opm op)
-built-by-recipe (Memory op) other apart = absurd (apart op refl)
-built-by-recipe (Config op) other apart = absurd (other op refl)

@@ -10,15 +10,17 @@ use Rattle.rvv_decode.specs.declared.instruction.VInstr.{VInstr}
 use Rattle.vtype_cfg.specs.declared.configuration.Cfg.{Cfg}
 use Rattle.rvv_meaning.specs.Elementwise.{is_ones}
 use Rattle.vec_exec.specs.declared.recipes.Listed.{Listed}
-use Rattle.vec_exec.specs.declared.recipes.Listed.TheVariants.{Bits, Sums, Truths, Choices, Shifts, Products, Divisions, Copies, Halves}
+use Rattle.vec_exec.specs.declared.recipes.Listed.TheVariants.{Bits, Sums, Truths, Choices, Shifts, Products, Roundings, Divisions, Copies, Halves}
 use Rattle.vec_exec.specs.declared.recipes.Recipe.{Recipe}
 use Rattle.frame_laws.specs.Classes.Halved.{Pair, Lists, halves_row, half_list, halves_list}
-use Rattle.frame_laws.specs.Classes.Operands.{Operand, group, scalar, narrow, laid_out}
+use Rattle.frame_laws.specs.Classes.Operands.{laid_out}
+use Rattle.frame_laws.proofs.Classes.Spreading.{laid-keep}
+use Rattle.frame_laws.proofs.Classes.HalvedClips.{halves-keep}
 use Rattle.frame_meaning.specs.Halves.{half_count}
 use Rattle.frame_meaning.specs.Shapes.{has_scalar}
 use Rattle.micro_ir.specs.Pieces.{commit}
 use Rattle.micro_ir.specs.Steps.{micros}
-use Rattle.vec_exec.specs.Recipes.{list_of}
+use Rattle.vec_exec.specs.Recipes.{list_of, tells_clips}
 use Rattle.vec_exec.specs.Programs.{reads, masked, list_for, width_of, operands_of, halves_of, scalar_list, window_list, fill_list, free_bits, mask_fill_list, kind_list, truth_list, wide_lists, body_list, half_list_of, first_in, register_list, registers_list, mask_register_list, mask_registers_list, half_register_list, half_registers_list, element_program, mask_program, half_program}
 
 -- a list that is there, or not
@@ -26,22 +28,18 @@ cond-keep : (b : Bool) (ops : List MicroOp) → all_keep_control ops ≡ true �
 cond-keep true ops keep = keep
 cond-keep false ops keep = refl
 
-list-keep : (list : Listed) (w a b d to : ℕ) → all_keep_control (list_of list w a b d to) ≡ true
+list-keep : (list : Listed) (w mode a b d to : ℕ) → tells_clips list ≡ false → all_keep_control (list_of list w mode a b d to) ≡ true
 unfolding list_of
-list-keep (Bits kind) w a b d to = micros-keep w _
-list-keep (Sums kind) w a b d to = micros-keep w _
-list-keep (Truths kind) w a b d to = micros-keep w _
-list-keep (Choices kind) w a b d to = micros-keep w _
-list-keep (Shifts kind) w a b d to = micros-keep w _
-list-keep (Products kind) w a b d to = micros-keep w _
-list-keep (Divisions kind) w a b d to = micros-keep w _
-list-keep Copies w a b d to = micros-keep w _
-list-keep (Halves kind) w a b d to = micros-keep (2 * w) _
-
-laid-keep : (op : Operand) (w g : ℕ) → all_keep_control (laid_out op w g) ≡ true
-laid-keep (group r) w g = refl
-laid-keep scalar w g = refl
-laid-keep (narrow signed by n r row) w g = cond-keep signed _ (micros-keep w _)
+list-keep (Bits kind) w mode a b d to quiet = micros-keep w _
+list-keep (Sums kind) w mode a b d to quiet = micros-keep w _
+list-keep (Truths kind) w mode a b d to quiet = micros-keep w _
+list-keep (Choices kind) w mode a b d to quiet = micros-keep w _
+list-keep (Shifts kind) w mode a b d to quiet = micros-keep w _
+list-keep (Products kind) w mode a b d to quiet = micros-keep w _
+list-keep (Roundings right) w mode a b d to quiet = micros-keep w _
+list-keep (Divisions kind) w mode a b d to quiet = micros-keep w _
+list-keep Copies w mode a b d to quiet = micros-keep w _
+list-keep (Halves kind) w mode a b d to quiet = micros-keep (2 * w) _
 
 scalar-keep : (i : VInstr) (width number : ℕ) → all_keep_control (scalar_list i width number) ≡ true
 scalar-keep i width number = cond-keep (has_scalar i.form) _ (micros-keep width _)
@@ -56,16 +54,7 @@ free-keep : (c : Cfg) (masked : Bool) (g : ℕ) → all_keep_control (free_bits 
 free-keep c masked zero = cond-keep (is_ones c.policy) _ refl
 free-keep c masked (suc g) = refl
 
--- the operations on the halves of a register
-halves-keep : (w : ℕ) (with : Pair) (lists : Lists) → ((q : ℕ) → all_keep_control (lists.body q) ≡ true) → (g count : ℕ) → all_keep_control (halves_list w with lists g count) ≡ true
-unfolding halves_list
-halves-keep w with lists keep g zero = refl
-halves-keep w with lists keep g (suc h) =
-    let last : List MicroOp = Narrow lists.row halves_row (2 * w) h ∷ [] in
-    keep-append (halves_list w with lists g h) (half_list w with lists g h) (halves-keep w with lists keep g h)
-    (keep-append (laid_out with.b (2 * w) (2 * g + h)) (lists.body (2 * g + h) ++ last) (laid-keep with.b (2 * w) (2 * g + h)) (keep-append (lists.body (2 * g + h)) last (keep (2 * g + h)) refl))
-
-module _ (r : Recipe) (i : VInstr) (c : Cfg) where
+module _ (r : Recipe) (i : VInstr) (c : Cfg) (quiet : tells_clips (list_for r i) ≡ false) where
   -- what stands round the list of a register
   around-keep : (width first to : ℕ) (body : List MicroOp) → all_keep_control body ≡ true
       → all_keep_control (window_list c width (reads r i) (masked r i) first ++ (body ++ fill_list c width first (masked r i) to)) ≡ true
@@ -77,7 +66,7 @@ module _ (r : Recipe) (i : VInstr) (c : Cfg) where
   body-keep g =
       let with = operands_of r i c in
       keep-append (laid_out with.a (width_of r c) g) (laid_out with.b (width_of r c) g ++ kind_list r i c g) (laid-keep with.a (width_of r c) g)
-      (keep-append (laid_out with.b (width_of r c) g) (kind_list r i c g) (laid-keep with.b (width_of r c) g) (list-keep (list_for r i) (width_of r c) _ _ _ _))
+      (keep-append (laid_out with.b (width_of r c) g) (kind_list r i c g) (laid-keep with.b (width_of r c) g) (list-keep (list_for r i) (width_of r c) _ _ _ _ _ quiet))
 
   register-keep : (g : ℕ) → all_keep_control (register_list r i c g) ≡ true
   unfolding register_list
@@ -94,7 +83,7 @@ module _ (r : Recipe) (i : VInstr) (c : Cfg) where
       let first = first_in r i c c.vtype.sew g in
       let last : List MicroOp = PackMask truth_row active_row i.vd c.vtype.sew first ∷ [] in
       keep-append (window_list c c.vtype.sew (reads r i) (masked r i) first) (truth_list r i c g ++ (free_bits c (masked r i) g ++ last)) (window-keep c c.vtype.sew (reads r i) (masked r i) first)
-      (keep-append (truth_list r i c g) (free_bits c (masked r i) g ++ last) (list-keep (list_for r i) c.vtype.sew _ _ _ _)
+      (keep-append (truth_list r i c g) (free_bits c (masked r i) g ++ last) (list-keep (list_for r i) c.vtype.sew _ _ _ _ _ quiet)
       (keep-append (free_bits c (masked r i) g) last (free-keep c (masked r i) g) refl))
 
   mask-registers-keep : (count : ℕ) → all_keep_control (mask_registers_list r i c count) ≡ true
@@ -107,7 +96,7 @@ module _ (r : Recipe) (i : VInstr) (c : Cfg) where
   half-register-keep g =
       around-keep c.vtype.sew (first_in r i c c.vtype.sew g) (i.vd + g) (half_list_of r i c g)
       (keep-append (halves_list c.vtype.sew (halves_of r i c) (wide_lists r i c) g (half_count c.vtype)) (micros c.vtype.sew (commit c.vtype.sew halves_row (i.vd + g)))
-      (halves-keep c.vtype.sew (halves_of r i c) (wide_lists r i c) (λ q. list-keep (list_for r i) c.vtype.sew _ _ _ _) g (half_count c.vtype))
+      (halves-keep c.vtype.sew (halves_of r i c) (wide_lists r i c) (λ q. list-keep (list_for r i) c.vtype.sew _ _ _ _ _ quiet) g (half_count c.vtype))
       (micros-keep c.vtype.sew _))
 
   half-registers-keep : (count : ℕ) → all_keep_control (half_registers_list r i c count) ≡ true

@@ -1,7 +1,9 @@
 -- The programs as the code writes them, and what they do.
 pub mod Widths
 pub mod Copied
+pub mod RoundedRange
 pub mod Fits
+pub mod Computed
 pub mod Written
 pub mod Keeping
 pub mod Placed

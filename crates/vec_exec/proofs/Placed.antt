@@ -26,7 +26,7 @@ use Rattle.frame_meaning.specs.Shapes.{source_in_vs1, narrow_in_vs1, class_in}
 use Rattle.frame_meaning.specs.Halves.{half_count, half_in_vs1}
 use Rattle.frame_meaning.proofs.Halves.{HalvesThere, halves-there}
 use Rattle.vec_exec.specs.declared.recipes.Listed.{Listed}
-use Rattle.vec_exec.specs.declared.recipes.Listed.TheVariants.{Bits, Sums, Truths, Choices, Shifts, Products, Divisions, Copies, Halves}
+use Rattle.vec_exec.specs.declared.recipes.Listed.TheVariants.{Bits, Sums, Truths, Choices, Shifts, Products, Roundings, Divisions, Copies, Halves}
 use Rattle.vec_exec.specs.declared.recipes.Recipe.{Recipe}
 use Rattle.vec_exec.specs.Recipes.{takes_laid, uses_wide_rows, FitsRows}
 use Rattle.vec_exec.specs.Programs.{width_of, count_of, IsLayable, IsPlaced, IsMaskPlaced, IsHalfPlaced}
@@ -41,6 +41,10 @@ valid-setting c valid = (and_parts _ _ (and_parts _ _ (and_parts _ _ (and_parts 
 pub valid-length : (c : Cfg) → IsTrue (is_valid c) → IsTrue (is_legal_vlen c.vlen)
 unfolding is_valid
 valid-length c valid = (and_parts _ _ (and_parts _ _ (and_parts _ _ (and_parts _ _ valid).0).0).0).0
+
+pub valid-mode : (c : Cfg) → IsTrue (is_valid c) → c.vxrm ≤ 3
+unfolding is_valid
+valid-mode c valid = leb-true c.vxrm 3 (and_parts _ _ valid).1
 
 pub valid-short : (c : Cfg) → IsTrue (is_valid c) → c.vl ≤ vlmax c.vtype c.vlen
 unfolding is_valid
@@ -85,6 +89,7 @@ plain-rows (Truths kind) a b laid first second = (operand-row a first, operand-r
 plain-rows (Choices kind) a b laid first second = (operand-row a first, operand-row b second)
 plain-rows (Shifts kind) a b laid first second = (operand-row a first, operand-row b second)
 plain-rows (Products kind) a b laid first second = (operand-row a first, operand-row b second)
+plain-rows (Roundings right) a b laid first second = (operand-row a first, operand-row b second)
 plain-rows (Halves kind) a b laid first second = (operand-row a first, operand-row b second)
 plain-rows Copies a b laid first second = absurd (false≢true (sym laid))
 
@@ -96,6 +101,7 @@ wide-rows (Truths kind) a b laid free first second = (first, second)
 wide-rows (Choices kind) a b laid free first second = (first, second)
 wide-rows (Shifts kind) a b laid free first second = (first, second)
 wide-rows (Products kind) a b laid free first second = (first, second)
+wide-rows (Roundings right) a b laid free first second = (first, second)
 wide-rows (Halves kind) a b laid free first second = (first, second)
 wide-rows Copies a b laid free first second = absurd (false≢true (sym laid))
 
@@ -108,6 +114,7 @@ laid-rows (Truths kind) b laid second = absurd (false≢true laid)
 laid-rows (Choices kind) b laid second = absurd (false≢true laid)
 laid-rows (Shifts kind) b laid second = absurd (false≢true laid)
 laid-rows (Products kind) b laid second = absurd (false≢true laid)
+laid-rows (Roundings right) b laid second = absurd (false≢true laid)
 laid-rows (Halves kind) b laid second = absurd (false≢true laid)
 
 -- rows that fit a list are rows
@@ -132,6 +139,7 @@ fits-small (Truths kind) a b fit = both-small a b fit
 fits-small (Choices kind) a b fit = both-small a b fit
 fits-small (Shifts kind) a b fit = both-small a b fit
 fits-small (Products kind) a b fit = both-small a b fit
+fits-small (Roundings right) a b fit = both-small a b fit
 fits-small (Halves kind) a b fit = both-small a b fit
 fits-small Copies a b fit = let is : a ≡ 36 = fit.0 in (omega arith, operand-small b fit.1)
 

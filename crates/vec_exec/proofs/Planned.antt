@@ -1,6 +1,7 @@
 -- What a plan writes is the program in the frame; what legality says of its rows; and what the program does and costs.
-use Rattle.std.proofs.Common.{◌≡◌, inl, inr, ℕ, zero, suc, ◌+◌, ◌*◌, ◌/◌, ◌<◌, ◌≤◌, Bool, true, false, ◌&&◌, not, cond, List, ◌++◌, Some, refl, sym, ◌∙◌, ap, subst, arith}
+use Rattle.std.proofs.Common.{◌≡◌, inl, inr, ℕ, zero, suc, ◌+◌, ◌*◌, ◌/◌, ◌<◌, ◌≤◌, Bool, true, false, ◌&&◌, not, cond, List, ◌++◌, Some, refl, sym, ◌∙◌, ap, subst, arith, ⊎_elim}
 use Rattle.std.specs.Prelude.{IsTrue}
+use Rattle.std.proofs.lemmas.Bool.{cases_Bool}
 use Rattle.bit_rows.specs.Slices.{Slices, blank}
 use Rattle.cam_chain.specs.Views.{registers_of}
 use Rattle.gen_div.specs.Rows.{IsSignedRow}
@@ -8,10 +9,11 @@ use Rattle.gen_shift.specs.Rows.{shift_rows, shifted_row}
 use Rattle.micro_ir.specs.declared.op.MicroOp.{MicroOp}
 use Rattle.micro_ir.specs.Kinds.{Realises}
 use Rattle.micro_ir.specs.Measures.{Measured}
-use Rattle.micro_ir.specs.Replay.{replay, tally, all_keep_control, AllInRange}
+use Rattle.micro_ir.specs.Replay.{replay, clips, tally, all_keep_control, AllInRange}
 use Rattle.micro_ir.specs.WorkRows.{result_row, left_row}
 use Rattle.micro_ir.proofs.Lists.{clips-none}
 use Rattle.micro_ir.proofs.Valued.{tells-same}
+use Rattle.row_views.specs.Clips.{ClipsWhere}
 use Rattle.rvv_decode.specs.declared.instruction.VInstr.{VInstr}
 use Rattle.vtype_cfg.specs.declared.configuration.Cfg.{Cfg}
 use Rattle.vtype_cfg.specs.Settings.{is_valid}
@@ -24,7 +26,7 @@ use Rattle.legal_groups.proofs.Groups.{legal_compare_law}
 use Rattle.rvv_meaning.specs.Elementwise.{Elementwise, registers_after, clips_below, clips as clips_elements}
 use Rattle.rvv_meaning.specs.Operations.{Operation, operation_for, on_elements, elements_at, reads_mask, log2}
 use Rattle.frame_laws.specs.Classes.Operands.{narrow, row_of}
-use Rattle.frame_laws.specs.Classes.Plain.{Value, with_operands, IsPlain, AllCompute}
+use Rattle.frame_laws.specs.Classes.Plain.{Value, with_operands, IsPlain, AllCompute, AllClip}
 use Rattle.frame_laws.specs.Classes.Halved.{AllLeave}
 use Rattle.frame_laws.specs.Classes.Compared.{AllTell}
 use Rattle.frame_laws.specs.Programs.{program, first_registers, one_register}
@@ -33,22 +35,25 @@ use Rattle.frame_laws.specs.Masks.Programs as masks
 use Rattle.frame_meaning.specs.declared.Order.{Order}
 use Rattle.frame_meaning.specs.declared.Order.TheVariants.{Straight, Reversed, Second, Exchanged, Widening, WideSource, Half, Quarter}
 use Rattle.frame_meaning.specs.declared.Signs.{Signs}
+use Rattle.frame_meaning.specs.Realising.{RealisesInstruction}
 use Rattle.frame_meaning.specs.Shapes.{signs_of, scalar_of, width_in, count_in, class_in, operands_in, value_by, value_in, elements_in, shape_in, body_in, program_in}
+use Rattle.frame_meaning.specs.Clips.{clips_by, clips_in}
 use Rattle.frame_meaning.specs.Laws.{Runs}
 use Rattle.frame_meaning.specs.Costs.{ElementsMeasured}
 use Rattle.frame_meaning.specs.Halves.{half_count, half_operands, half_scalar, half_value_in, half_elements, half_shape, half_body, half_program_in, IsOfHalves}
 use Rattle.frame_meaning.specs.Masks.{IsTruth, truth_in, compare_operands, compare_shape, compare_program, CompareMeasured}
 use Rattle.frame_meaning.proofs.Instructions.{facts-of, is-plain, elements_meaning_law, elements_cost_law}
+use Rattle.frame_meaning.proofs.Clips.{elements_clip_law}
 use Rattle.frame_meaning.proofs.Halves.{halves_meaning_law, halves_cost_law}
 use Rattle.frame_meaning.proofs.Masks.{compare_meaning_law, compare_cost_law}
 use Rattle.vec_exec.specs.declared.recipes.Listed.{Listed}
 use Rattle.vec_exec.specs.declared.recipes.Recipe.{Recipe}
-use Rattle.vec_exec.specs.Recipes.{recipe_for, makes_bits, makes_halves, takes_row, takes_laid, uses_wide_rows, value_of, truth_of, counts_of, length_of, Computes}
-use Rattle.vec_exec.specs.Programs.{reads, list_for, width_of, count_of, kind_list, truth_list, wide_lists, body_counts, body_length, half_counts, half_length, element_program, mask_program, half_program, register_list, registers_list, mask_register_list, mask_registers_list, half_register_list, half_registers_list, mask_fill_list, scalar_list, IsMade, IsMaskMade, IsHalfMade, RealisesInstruction, prog, program_by, cost, cost_by}
+use Rattle.vec_exec.specs.Recipes.{recipe_for, makes_bits, makes_halves, takes_row, takes_laid, uses_wide_rows, value_of, truth_of, tells_clips, clips_of, counts_of, length_of, Computes, TellsClips}
+use Rattle.vec_exec.specs.Programs.{reads, list_for, width_of, count_of, kind_list, truth_list, wide_lists, body_counts, body_length, half_counts, half_length, element_program, mask_program, half_program, register_list, registers_list, mask_register_list, mask_registers_list, half_register_list, half_registers_list, mask_fill_list, scalar_list, IsMade, IsMaskMade, IsHalfMade, prog, program_by, cost, cost_by}
 use Rattle.vec_exec.proofs.Keeping.{elements-keep, mask-keep, halves-keep-program}
-use Rattle.vec_exec.proofs.Fits.{Traits, takes_one_laid, has_wide_rows, Means, Unmasked, Fits}
-use Rattle.vec_exec.proofs.Placed.{valid-setting, valid-length, valid-short, no-bit, second-row, wide-row, compared-row, operand-row, plain-rows, wide-rows, laid-rows, operand-small, fits-small, layable, second-layable, wide-layable, Rows, Plans, MaskPlans, HalfPlans, source-half, source-quarter, half-legal, half-wide, half-planned}
-use Rattle.vec_exec.proofs.Listing.{lists-compute, leaves-same, spared}
+use Rattle.vec_exec.proofs.Fits.{never, Traits, takes_one_laid, has_wide_rows, Means, Unmasked, Clipping, Fits}
+use Rattle.vec_exec.proofs.Placed.{valid-setting, valid-length, valid-mode, valid-short, no-bit, second-row, wide-row, compared-row, operand-row, plain-rows, wide-rows, laid-rows, operand-small, fits-small, layable, second-layable, wide-layable, Rows, Plans, MaskPlans, HalfPlans, source-half, source-quarter, half-legal, half-wide, half-planned}
+use Rattle.vec_exec.proofs.Listing.{lists-compute, leaves-same, clips-same, bits-quiet, halves-quiet, spared}
 
 -- no element is clipped where the operation clips none
 clips-no-element : (c : Cfg) (e : Elementwise) (v : List (List ℕ)) → ((k : ℕ) → e.clipped v k ≡ false) → (n : ℕ) → clips_below c e v n ≡ false
@@ -103,15 +108,25 @@ module _ (r : Recipe) (o : Operation) (i : VInstr) (c : Cfg) (x : ℕ) (f : Fits
   pub reads-for : reads r i ≡ reads_mask i o
   reads-for = rw takes refl
 
-  -- the program marks no element as clipped, and the operation clips none
-  unclipped : (v : List (List ℕ)) → clips_elements c (on_elements i c x o) v ≡ false
+  -- it tells clips where those of its recipe do
+  tells-for : tells_clips (list_for r i) ≡ tells_clips r.masked
+  tells-for = chosen tells_clips (ap (λ (t : Traits). t.tells) f.same)
+
+  -- where no list tells clips, the operation clips no element
+  unclipped : tells_clips r.masked ≡ false → (v : List (List ℕ)) → clips_elements c (on_elements i c x o) v ≡ false
   unfolding elements_at
-  unclipped v = clips-no-element c (on_elements i c x o) v (λ k. rw (ap (λ (t : Traits). t.clips) f.same) refl) _
+  unclipped quiet v =
+      let none : o.clips ≡ never = rw quiet at f.clips in
+      clips-no-element c (on_elements i c x o) v (λ k. rw none refl) _
+
+  -- a program that leaves the control numbers
+  quiet-clips : (ops : List MicroOp) (s : Slices) → tells_clips r.masked ≡ false → all_keep_control ops ≡ true → clips ops s ≡ clips_elements c (on_elements i c x o) (registers_of s)
+  quiet-clips ops s quiet keep = clips-none ops s keep ∙ sym (unclipped quiet (registers_of s))
 
   -- ---- results that are elements
 
   module _ (numbers : makes_bits r.masked ≡ false) where
-    value-for : (w a b d : ℕ) (m : Bool) → value_of (list_for r i) w a b d m ≡ value_by r.order o w c.vxrm a b d (reads_mask i o && m)
+    value-for : (w a b d : ℕ) (m : Bool) → value_of (list_for r i) w c.vxrm a b d m ≡ value_by r.order o w c.vxrm a b d (reads_mask i o && m)
     value-for w a b d m = either (reads r i) ∙ rw takes refl
       where
         means : Means false r o
@@ -120,9 +135,9 @@ module _ (r : Recipe) (o : Operation) (i : VInstr) (c : Cfg) (x : ℕ) (f : Fits
         unmasked : Unmasked false r.plain r.masked
         unmasked = rw numbers at f.unmasked
 
-        either : (t : Bool) → value_of (cond t r.masked r.plain) w a b d m ≡ value_by r.order o w c.vxrm a b d (t && m)
+        either : (t : Bool) → value_of (cond t r.masked r.plain) w c.vxrm a b d m ≡ value_by r.order o w c.vxrm a b d (t && m)
         either true = means w c.vxrm a b d m
-        either false = unmasked w a b d m ∙ means w c.vxrm a b d false
+        either false = unmasked w c.vxrm a b d m ∙ means w c.vxrm a b d false
 
     module _ (whole : makes_halves r.masked ≡ false) where
       pub class : class_of i.op ≡ class_in r.order
@@ -137,6 +152,25 @@ module _ (r : Recipe) (o : Operation) (i : VInstr) (c : Cfg) (x : ℕ) (f : Fits
           (kind_list r i c g))
           signs
           (lists-compute r.order o i c (list_for r i) (width_of r c) _ _ _ (i.vd + g) refl (bits-for ∙ numbers) takes-for (value-for (width_of r c)) (made g inside).computes)
+
+      -- each list tells what the operation clips, where it does
+      clip-for : Clipping r o → (w a b d : ℕ) → clips_of (list_for r i) w c.vxrm a b d ≡ clips_by r.order o w c.vxrm a b d
+      clip-for clip w a b d = either (reads r i)
+        where
+          either : (t : Bool) → clips_of (cond t r.masked r.plain) w c.vxrm a b d ≡ clips_by r.order o w c.vxrm a b d
+          either true = clip.means w c.vxrm a b d
+          either false = ap (λ (l : Listed). clips_of l w c.vxrm a b d) clip.plain ∙ clip.means w c.vxrm a b d
+
+      clip-told : Clipping r o → tells_clips r.masked ≡ true → ((g : ℕ) → g < count_of r c → IsMade r i c g)
+          → AllClip (width_in r.order c.vtype.sew) (count_in r.order c.vtype) (operands_in r.order (signs_of o) i c.vtype.sew) (clips_in r.order i c o) (kind_list r i c)
+      unfolding TellsClips
+      clip-told clip told made g inside =
+          subst
+          (λ (s : Signs). ClipsWhere (width_in r.order c.vtype.sew)
+          (λ n. clips_in r.order i c o (n (row_of (operands_in r.order s i c.vtype.sew).a g)) (n (row_of (operands_in r.order s i c.vtype.sew).b g)) (n ((operands_in r.order s i c.vtype.sew).addend + g)))
+          (kind_list r i c g))
+          signs
+          (clips-same (width_of r c) _ _ (kind_list r i c g) (λ n. clip-for clip (width_of r c) _ _ _) (rw (tells-for ∙ told) at (made g inside).tells))
 
       -- the program as it is written
       module _ (wide : IsElementWidth (width_of r c)) where
@@ -167,7 +201,7 @@ module _ (r : Recipe) (o : Operation) (i : VInstr) (c : Cfg) (x : ℕ) (f : Fits
       of-halves : IsOfHalves o × (r.order ≡ Straight)
       of-halves = rw halves at f.halves
 
-      half-value : (w a b : ℕ) → value_of (list_for r i) w a b 0 false ≡ o.value w c.vxrm a b 0 false
+      half-value : (w a b : ℕ) → value_of (list_for r i) w c.vxrm a b 0 false ≡ o.value w c.vxrm a b 0 false
       half-value w a b =
           value-for w a b 0 false
           ∙ ap (λ (order : Order). value_by order o w c.vxrm a b 0 (reads_mask i o && false)) of-halves.1
@@ -179,7 +213,7 @@ module _ (r : Recipe) (o : Operation) (i : VInstr) (c : Cfg) (x : ℕ) (f : Fits
         work = shift_rows;
         spares = spared;
         spares_halves = refl;
-        leaves = λ g h inside first. leaves-same (2 * c.vtype.sew) (shifted_row (log2 (2 * c.vtype.sew))) shift_rows _ _ _ (λ n. half-value c.vtype.sew _ _) ((made g inside).leaves h first);
+        leaves = λ g h inside first. leaves-same c.vtype.sew (shifted_row (log2 (2 * c.vtype.sew))) shift_rows _ _ _ (λ n. half-value c.vtype.sew _ _) ((made g inside).leaves h first);
       }
 
       -- the program as it is written
@@ -344,6 +378,7 @@ module _ (r : Recipe) (o : Operation) (i : VInstr) (c : Cfg) (x : ℕ) (f : Fits
         placed = λ g inside.
             let rows = rows-in r i c (list_for r i) (shape_in r.order i c x o) (value_in r.order i c o) (c.vlen / 32) r.order (signs_of o) (laid-for r o i c x f) (free-for r o i c x f) facts.sew (half-width facts) (quarter-width facts) plain g inside in
             record {
+              mode = valid-mode c valid;
               vd = let room : i.vd + count_in r.order c.vtype ≤ 32 = facts.place.room in omega arith;
               a = rw signed (fits-small _ _ _ rows.fit).0;
               b = rw signed (fits-small _ _ _ rows.fit).1;
@@ -390,6 +425,18 @@ module _ (r : Recipe) (o : Operation) (i : VInstr) (c : Cfg) (x : ℕ) (f : Fits
       rw (elements-list r o i c x f numbers unhalved (plans numbers unhalved).width)
       (elements_meaning_law r.order o i c x (kind_list r i c) s f.ignores (runs s long small) (class r o i c x f numbers unhalved) (computed r o i c x f numbers unhalved made))
 
+  elements-clip : (numbers : makes_bits r.masked ≡ false) (unhalved : makes_halves r.masked ≡ false) → ((g : ℕ) → g < count_of r c → IsMade r i c g) → i.vs1 < 32 → (s : Slices) → c.vlen ≡ 32 * s.columns
+      → clips (element_program r i c x) s ≡ clips_elements c (on_elements i c x o) (registers_of s)
+  elements-clip numbers unhalved made small s long =
+      ⊎_elim
+      (λ (told : tells_clips r.masked ≡ true).
+      let clip : Clipping r o = rw told at f.clips in
+      rw (elements-list r o i c x f numbers unhalved (plans numbers unhalved).width)
+      (elements_clip_law r.order o i c x (kind_list r i c) s clip.ignores clip.takes (runs s long small) (valid-short c valid) (class r o i c x f numbers unhalved) (computed r o i c x f numbers unhalved made)
+      (clip-told r o i c x f numbers unhalved clip told made)))
+      (λ (quiet : tells_clips r.masked ≡ false). quiet-clips r o i c x f (element_program r i c x) s quiet (elements-keep r i c (tells-for r o i c x f ∙ quiet) x))
+      (cases_Bool (tells_clips r.masked))
+
   pub elements-measured : (numbers : makes_bits r.masked ≡ false) (unhalved : makes_halves r.masked ≡ false) → ((g : ℕ) → g < count_of r c → IsMade r i c g) → i.vs1 < 32
       → ElementsMeasured i c (blank (c.vlen / 32)) (count_of r c) (reads_mask i o) (body_counts r i c) (body_length r i c) (element_program r i c x)
   elements-measured numbers unhalved made small =
@@ -405,6 +452,11 @@ module _ (r : Recipe) (o : Operation) (i : VInstr) (c : Cfg) (x : ℕ) (f : Fits
   halves-realised numbers halves made small s long =
       rw (halves-list r o i c x f numbers halves (half-wide (half-plans numbers halves).narrow))
       (halves_meaning_law o i c x (wide_lists r i c) s (of-halves r o i c x f numbers halves).0 (runs s long small) (valid-short c valid) (half-class r o i c x f numbers halves) (leaves-all r o i c x f numbers halves made))
+
+  halves-clip : (numbers : makes_bits r.masked ≡ false) (halves : makes_halves r.masked ≡ true) (s : Slices) → c.vlen ≡ 32 * s.columns → clips (half_program r i c x) s ≡ clips_elements c (on_elements i c x o) (registers_of s)
+  halves-clip numbers halves s long =
+      let quiet = halves-quiet r.masked halves in
+      quiet-clips r o i c x f (half_program r i c x) s quiet (halves-keep-program r i c (tells-for r o i c x f ∙ quiet) x)
 
   pub halves-measured : (numbers : makes_bits r.masked ≡ false) (halves : makes_halves r.masked ≡ true) → ((g : ℕ) → g < registers_for c.vtype c.vtype.sew → IsHalfMade r i c g) → i.vs1 < 32
       → ElementsMeasured i c (blank (c.vlen / 32)) (registers_for c.vtype c.vtype.sew) (reads_mask i o) (half_counts r i c) (half_length r i c) (half_program r i c x)
@@ -422,20 +474,25 @@ module _ (r : Recipe) (o : Operation) (i : VInstr) (c : Cfg) (x : ℕ) (f : Fits
       (compare_meaning_law o (truth_of r.masked) (truth r o i c x f bits) i c x (truth_list r i c) s (runs s long small) (valid-short c valid) (mask-class r o i c x f bits)
       (told r o i c x f bits made))
 
+  bits-clip : (bits : makes_bits r.masked ≡ true) (s : Slices) → c.vlen ≡ 32 * s.columns → clips (mask_program r i c x) s ≡ clips_elements c (on_elements i c x o) (registers_of s)
+  bits-clip bits s long =
+      let quiet = bits-quiet r.masked bits in
+      quiet-clips r o i c x f (mask_program r i c x) s quiet (mask-keep r i c (tells-for r o i c x f ∙ quiet) x)
+
   pub bits-measured : (bits : makes_bits r.masked ≡ true) → ((g : ℕ) → g < group_count c.vtype → IsMaskMade r i c g) → i.vs1 < 32
-      → CompareMeasured i c (blank (c.vlen / 32)) (reads_mask i o) (counts_of (list_for r i) c.vtype.sew) (length_of (list_for r i) c.vtype.sew) (mask_program r i c x)
+      → CompareMeasured i c (blank (c.vlen / 32)) (reads_mask i o) (counts_of (list_for r i) c.vtype.sew 0) (length_of (list_for r i) c.vtype.sew 0) (mask_program r i c x)
   bits-measured bits made small =
       rw (bits-list r o i c x f bits)
       (compare_cost_law o i c x (truth_list r i c) (blank (c.vlen / 32)) _ _ (runs (blank (c.vlen / 32)) whole small) (valid-short c valid) (mask-class r o i c x f bits) (λ g inside. (made g inside).cost))
 
   -- ---- together
 
-  -- what a list leaves that leaves the registers of the meaning
-  realised : (ops : List MicroOp) → all_keep_control ops ≡ true → operation_for i.op ≡ Some o
-      → ((s : Slices) → c.vlen ≡ 32 * s.columns → registers_of (replay ops s) ≡ registers_after c (on_elements i c x o) (registers_of s)) → RealisesInstruction i c x ops
+  -- what a list leaves that leaves the registers of the meaning, and sets the flag of its clips
+  realised : (ops : List MicroOp) → operation_for i.op ≡ Some o
+      → ((s : Slices) → c.vlen ≡ 32 * s.columns → registers_of (replay ops s) ≡ registers_after c (on_elements i c x o) (registers_of s))
+      → ((s : Slices) → c.vlen ≡ 32 * s.columns → clips ops s ≡ clips_elements c (on_elements i c x o) (registers_of s)) → RealisesInstruction i c x ops
   unfolding RealisesInstruction
-  realised ops keep is all s cleared long =
-      rw is (all s long, clips-none ops s keep ∙ sym (unclipped r o i c x f (registers_of s)))
+  realised ops is all flag s cleared long = rw is (all s long, flag s long)
 
   pub elements-program : makes_bits r.masked ≡ false → makes_halves r.masked ≡ false → program_by r i c x ≡ element_program r i c x
   unfolding program_by
@@ -446,7 +503,7 @@ module _ (r : Recipe) (o : Operation) (i : VInstr) (c : Cfg) (x : ℕ) (f : Fits
   elements-fine is numbers unhalved made small =
       let m = elements-measured numbers unhalved made small in
       record {
-        realises = rw (elements-program numbers unhalved) (realised (element_program r i c x) (elements-keep r i c x) is (elements-realised numbers unhalved made small));
+        realises = rw (elements-program numbers unhalved) (realised (element_program r i c x) is (elements-realised numbers unhalved made small) (elements-clip numbers unhalved made small));
         cost = rw (elements-program numbers unhalved) (m.cost ∙ sym (rw (numbers, unhalved) refl));
         range = rw (elements-program numbers unhalved) m.range;
       }
@@ -460,7 +517,7 @@ module _ (r : Recipe) (o : Operation) (i : VInstr) (c : Cfg) (x : ℕ) (f : Fits
   halves-fine is numbers halves made small =
       let m = halves-measured numbers halves made small in
       record {
-        realises = rw (halves-program numbers halves) (realised (half_program r i c x) (halves-keep-program r i c x) is (halves-realised numbers halves made small));
+        realises = rw (halves-program numbers halves) (realised (half_program r i c x) is (halves-realised numbers halves made small) (halves-clip numbers halves));
         cost = rw (halves-program numbers halves) (m.cost ∙ sym (rw (numbers, halves) refl));
         range = rw (halves-program numbers halves) m.range;
       }
@@ -474,7 +531,7 @@ module _ (r : Recipe) (o : Operation) (i : VInstr) (c : Cfg) (x : ℕ) (f : Fits
   bits-fine is bits made small =
       let m = bits-measured bits made small in
       record {
-        realises = rw (bits-program bits) (realised (mask_program r i c x) (mask-keep r i c x) is (bits-realised bits made small));
+        realises = rw (bits-program bits) (realised (mask_program r i c x) is (bits-realised bits made small) (bits-clip bits));
         cost = rw (bits-program bits) (m.cost ∙ sym (rw bits refl));
         range = rw (bits-program bits) m.range;
       }

@@ -1,5 +1,5 @@
 -- The programs as the code writes them.
-use Rattle.std.proofs.Common.{◌≡◌, ℕ, ◌+◌, ◌-◌, ◌*◌, ◌/◌, ◌%◌, ◌^◌, ◌<◌, ◌≤◌, Bool, true, false, cond, nat_lt, List, [], ◌∷◌, ◌++◌, zero, suc, max, refl, sym, ◌∙◌, ap, subst, arith, inl, inr, ⊎_elim, length-append}
+use Rattle.std.proofs.Common.{◌≡◌, ℕ, ◌+◌, ◌-◌, ◌*◌, ◌/◌, ◌%◌, ◌^◌, ◌<◌, ◌≤◌, Bool, true, false, cond, nat_lt, List, [], ◌∷◌, ◌++◌, zero, suc, max, length, eqb, refl, sym, ◌∙◌, ap, subst, arith, inl, inr, ⊎_elim, length-append}
 use Rattle.std.proofs.lemmas.Bool.{cases_lt, false≢true}
 use Rattle.std.proofs.lemmas.Nat.{mul-le, div-mul-add}
 use Rattle.std.proofs.Math.Nat.{mod-eq_of_lt, mod-lt, mul-le-mul_right}
@@ -13,7 +13,8 @@ use Rattle.frame_meaning.specs.Shapes.{source_in_vs1, narrow_in_vs1, operands_in
 use Rattle.frame_meaning.specs.declared.Order.{Order}
 use Rattle.frame_meaning.specs.declared.Order.TheVariants.{Straight, Reversed, Second, Exchanged, Widening, WideSource, Half, Quarter}
 use Rattle.frame_meaning.specs.declared.Signs.{Signs}
-use Rattle.gen_shift.specs.Kinds.{raw_length}
+use Rattle.gen_shift.specs.Kinds.{raw_length, mode_length}
+use Rattle.gen_shift.specs.Lists.{mode_on}
 use Rattle.gen_shift.specs.Rows.{is_odd, shift_role, shifted_row}
 use Rattle.gen_shift.specs.declared.kinds.Shift.{Shift}
 use Rattle.gen_shift.specs.declared.kinds.Shift.TheVariants.{Sll, Srl, Sra}
@@ -33,7 +34,7 @@ use Rattle.rvv_meaning.specs.Operations.{log2}
 use Rattle.vtype_cfg.specs.declared.configuration.Cfg.{Cfg}
 use Rattle.vtype_cfg.specs.declared.vtype.Vtype.{Vtype}
 use Rattle.vec_exec.specs.declared.recipes.Listed.{Listed}
-use Rattle.vec_exec.specs.declared.recipes.Listed.TheVariants.{Bits, Sums, Truths, Choices, Shifts, Products, Divisions, Copies, Halves}
+use Rattle.vec_exec.specs.declared.recipes.Listed.TheVariants.{Bits, Sums, Truths, Choices, Shifts, Products, Roundings, Divisions, Copies, Halves}
 use Rattle.vec_exec.specs.declared.recipes.Recipe.{Recipe}
 use Rattle.vec_exec.specs.Recipes.{makes_bits, makes_halves, length_of}
 use Rattle.rvv_meaning.specs.Elementwise.{is_ones}
@@ -68,7 +69,7 @@ flag-few false n = omega arith
 
 -- so many operations of a list leave a program of 8 registers within its room
 abbrev pub ListsFew : Type 0
-ListsFew = (list : Listed) (w : ℕ) → w ≤ 32 → length_of list w ≤ 30000
+ListsFew = (list : Listed) (w mode : ℕ) → w ≤ 32 → length_of list w mode ≤ 30000
 
 -- a list that tells truths is none of the others
 pub bits-no-halves : (list : Listed) → makes_bits list ≡ true → makes_halves list ≡ false
@@ -78,6 +79,7 @@ bits-no-halves (Truths kind) bits = refl
 bits-no-halves (Choices kind) bits = refl
 bits-no-halves (Shifts kind) bits = refl
 bits-no-halves (Products kind) bits = refl
+bits-no-halves (Roundings right) bits = refl
 bits-no-halves (Divisions kind) bits = refl
 bits-no-halves Copies bits = refl
 bits-no-halves (Halves kind) bits = absurd (false≢true bits)
@@ -310,22 +312,37 @@ raw-few Sll w l most few = let each : 3 * w + 13 ≤ 205 = omega arith in let al
 raw-few Srl w l most few = let each : 3 * w + 13 ≤ 205 = omega arith in let all : l * (3 * w + 13) ≤ 5 * 205 = mul-le l (3 * w + 13) 5 205 few each in omega arith
 raw-few Sra w l most few = let each : 3 * w + 15 ≤ 207 = omega arith in let all : l * (3 * w + 15) ≤ 5 * 207 = mul-le l (3 * w + 15) 5 207 few each in omega arith
 
-pub half-list-few : (list : Listed) (w : ℕ) → makes_halves list ≡ true → w ≤ 32 → length_of list w ≤ 3000
+-- what rounding adds to a list
+values-few : (mode : ℕ) → length (mode_on mode) ≤ 3
+values-few zero = omega arith
+values-few (suc zero) = omega arith
+values-few (suc (suc zero)) = omega arith
+values-few (suc (suc (suc n))) = omega arith
+
+pub mode-few : (mode w l : ℕ) → w ≤ 32 → l ≤ 5 → mode_length mode w l ≤ 400
+mode-few mode w l most few = chosen (eqb mode 2)
+  where
+    chosen : (b : Bool) → cond b 0 (5 * l + 9 * w + 3 + length (mode_on mode)) ≤ 400
+    chosen true = omega arith
+    chosen false = omega (arith, values-few mode)
+
+pub half-list-few : (list : Listed) (w mode : ℕ) → makes_halves list ≡ true → w ≤ 32 → length_of list w mode ≤ 3000
 unfolding length_of
-half-list-few (Halves kind) w halves most = raw-few kind (2 * w) (log2 (2 * w)) (omega arith) (log2-small (2 * w))
-half-list-few (Bits kind) w halves most = absurd (false≢true halves)
-half-list-few (Sums kind) w halves most = absurd (false≢true halves)
-half-list-few (Truths kind) w halves most = absurd (false≢true halves)
-half-list-few (Choices kind) w halves most = absurd (false≢true halves)
-half-list-few (Shifts kind) w halves most = absurd (false≢true halves)
-half-list-few (Products kind) w halves most = absurd (false≢true halves)
-half-list-few (Divisions kind) w halves most = absurd (false≢true halves)
-half-list-few Copies w halves most = absurd (false≢true halves)
+half-list-few (Halves kind) w mode halves most = raw-few kind (2 * w) (log2 (2 * w)) (omega arith) (log2-small (2 * w))
+half-list-few (Bits kind) w mode halves most = absurd (false≢true halves)
+half-list-few (Sums kind) w mode halves most = absurd (false≢true halves)
+half-list-few (Truths kind) w mode halves most = absurd (false≢true halves)
+half-list-few (Choices kind) w mode halves most = absurd (false≢true halves)
+half-list-few (Shifts kind) w mode halves most = absurd (false≢true halves)
+half-list-few (Products kind) w mode halves most = absurd (false≢true halves)
+half-list-few (Roundings right) w mode halves most = absurd (false≢true halves)
+half-list-few (Divisions kind) w mode halves most = absurd (false≢true halves)
+half-list-few Copies w mode halves most = absurd (false≢true halves)
 
 module _ (r : Recipe) (i : VInstr) (c : Cfg) (count : ℕ) (list-few : ListsFew) (few : count ≤ 8) where
   pub registers-few : width_of r c ≤ 32 → count * register_length r i c ≤ 8 * 30200
   registers-few narrow_enough =
-      let list = list-few (list_for r i) (width_of r c) narrow_enough in
+      let list = list-few (list_for r i) (width_of r c) c.vxrm narrow_enough in
       let first = laid-few (operands_of r i c).a (width_of r c) narrow_enough in
       let second = laid-few (operands_of r i c).b (width_of r c) narrow_enough in
       let one = flag-few (reads r i) 1 in
@@ -335,7 +352,7 @@ module _ (r : Recipe) (i : VInstr) (c : Cfg) (count : ℕ) (list-few : ListsFew)
 
   pub mask-registers-few : c.vtype.sew ≤ 32 → count * mask_register_length r i c ≤ 8 * 30200
   mask-registers-few narrow_enough =
-      let list = list-few (list_for r i) c.vtype.sew narrow_enough in
+      let list = list-few (list_for r i) c.vtype.sew 0 narrow_enough in
       let one = flag-few (reads r i) 1 in
       let each : mask_register_length r i c ≤ 30200 = omega (arith, list, one) in
       mul-le count _ 8 30200 few each
@@ -343,7 +360,7 @@ module _ (r : Recipe) (i : VInstr) (c : Cfg) (count : ℕ) (list-few : ListsFew)
   -- two halves of at most so many operations
   pub half-registers-few : makes_halves (list_for r i) ≡ true → 2 * c.vtype.sew ≤ 32 → count * half_register_length r i c ≤ 8 * 30200
   half-registers-few halves narrow_enough =
-      let list = half-list-few (list_for r i) c.vtype.sew halves (omega arith) in
+      let list = half-list-few (list_for r i) c.vtype.sew c.vxrm halves (omega arith) in
       let second = laid-few (halves_of r i c).b (2 * c.vtype.sew) narrow_enough in
       let one = flag-few (reads r i) 1 in
       let three = flag-few (is_ones c.policy) 3 in

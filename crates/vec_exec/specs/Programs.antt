@@ -1,12 +1,12 @@
 -- The program of an instruction, what it costs, and when a list realises an instruction.
-use Rattle.std.specs.Prelude.{◌≡◌, ◌<◌, ℕ, zero, suc, ◌+◌, ◌-◌, ◌*◌, ◌/◌, Bool, true, false, cond, ◌&&◌, not, List, [], ◌∷◌, ◌++◌, Option, Some, None}
+use Rattle.std.specs.Prelude.{◌≡◌, ◌<◌, ◌≤◌, ℕ, zero, suc, ◌+◌, ◌-◌, ◌*◌, ◌/◌, Bool, true, false, cond, ◌&&◌, not, List, [], ◌∷◌, ◌++◌, Option, Some, None}
 use Rattle.std.specs.Option.{option_map_or}
 use Rattle.bit_laws.specs.Numbers.{low}
 use Rattle.bit_rows.specs.Slices.{Slices}
 use Rattle.cam_chain.specs.ChainValue.{no_counts}
 use Rattle.cam_chain.specs.declared.counts.Counts.{Counts}
 use Rattle.cam_chain.specs.Views.{registers_of}
-use Rattle.frame_laws.specs.Classes.Halved.{Pair, Lists, halves_row, halves_list, half_list}
+use Rattle.frame_laws.specs.Classes.Halved.{Pair, Lists, LeavesLow, halves_row, halves_list, half_list}
 use Rattle.frame_laws.specs.Classes.Operands.{Operand, group, scalar, narrow, row_of, laid_out}
 use Rattle.frame_laws.specs.Classes.Plain.{Operands, with_operands}
 use Rattle.frame_laws.specs.Costs.{counts_times}
@@ -14,7 +14,6 @@ use Rattle.frame_meaning.specs.Costs.{cost_of}
 use Rattle.frame_meaning.specs.Masks.{compare_cost_of, compare_operands}
 use Rattle.frame_meaning.specs.Halves.{half_count, half_operands, half_scalar}
 use Rattle.frame_meaning.specs.Shapes.{has_scalar, scalar_of, width_in, count_in, operands_in}
-use Rattle.gen_shift.specs.Laws.{LeavesValue}
 use Rattle.gen_shift.specs.Rows.{shifted_row, shift_rows}
 use Rattle.legal_groups.specs.Facts.{IsElementWidth, registers_for, group_count}
 use Rattle.mask_window.specs.Operations.{active_operation, free_operation}
@@ -38,10 +37,9 @@ use Rattle.steer_net.specs.Moves.{is_wide}
 use Rattle.vtype_cfg.specs.declared.configuration.Cfg.{Cfg}
 use Rattle.rvv_meaning.specs.Elementwise.{is_ones, registers_after, clips as clips_elements}
 use Rattle.rvv_meaning.specs.Operations.{log2}
-use Rattle.rvv_meaning.specs.Vectors.{Left, elements, number, left_of}
 use Rattle.vec_exec.specs.declared.recipes.Listed.{Listed}
 use Rattle.vec_exec.specs.declared.recipes.Recipe.{Recipe}
-use Rattle.vec_exec.specs.Recipes.{recipe_for, makes_bits, makes_halves, list_of, value_of, counts_of, length_of, FitsRows, Computes}
+use Rattle.vec_exec.specs.Recipes.{recipe_for, makes_bits, makes_halves, list_of, value_of, counts_of, length_of, FitsRows, Computes, TellsClips}
 
 -- whether an instruction is carried out by a program: not a gather by a vector of indices, a compression, an iota, a move
 -- to a scalar register, a configuration, a load or a store
@@ -146,13 +144,14 @@ mask_fill_list c to = cond (is_ones c.policy) (micros c.vtype.sew (fill_step c.v
 -- the list of register g of the destination, that of register g of the operands of a mask, and that of register q of the
 -- operand of which each register has the elements of a half
 abbrev pub kind_list : Recipe → VInstr → Cfg → (g : ℕ) → List MicroOp
-kind_list r i c g = list_of (list_for r i) (width_of r c) (row_of (operands_of r i c).a g) (row_of (operands_of r i c).b g) ((operands_of r i c).addend + g) (i.vd + g)
+kind_list r i c g =
+    list_of (list_for r i) (width_of r c) c.vxrm (row_of (operands_of r i c).a g) (row_of (operands_of r i c).b g) ((operands_of r i c).addend + g) (i.vd + g)
 
 abbrev pub truth_list : Recipe → VInstr → Cfg → (g : ℕ) → List MicroOp
-truth_list r i c g = list_of (list_for r i) c.vtype.sew (row_of (compare_operands i).a g) (row_of (compare_operands i).b g) i.vd i.vd
+truth_list r i c g = list_of (list_for r i) c.vtype.sew 0 (row_of (compare_operands i).a g) (row_of (compare_operands i).b g) i.vd i.vd
 
 abbrev pub wide_list : Recipe → VInstr → Cfg → (q : ℕ) → List MicroOp
-wide_list r i c q = list_of (list_for r i) c.vtype.sew ((halves_of r i c).a + q) (row_of (halves_of r i c).b q) i.vd i.vd
+wide_list r i c q = list_of (list_for r i) c.vtype.sew c.vxrm ((halves_of r i c).a + q) (row_of (halves_of r i c).b q) i.vd i.vd
 
 module _ (r : Recipe) (i : VInstr) (c : Cfg) where
   -- the first element of register g of a group
@@ -164,10 +163,10 @@ module _ (r : Recipe) (i : VInstr) (c : Cfg) where
   body_list g = with_operands (width_of r c) (operands_of r i c) (kind_list r i c) g
 
   abbrev pub body_counts : Counts
-  body_counts = counts_and (laid_counts (operands_of r i c).a (width_of r c)) (counts_and (laid_counts (operands_of r i c).b (width_of r c)) (counts_of (list_for r i) (width_of r c)))
+  body_counts = counts_and (laid_counts (operands_of r i c).a (width_of r c)) (counts_and (laid_counts (operands_of r i c).b (width_of r c)) (counts_of (list_for r i) (width_of r c) c.vxrm))
 
   abbrev pub body_length : ℕ
-  body_length = laid_length (operands_of r i c).a (width_of r c) + (laid_length (operands_of r i c).b (width_of r c) + length_of (list_for r i) (width_of r c))
+  body_length = laid_length (operands_of r i c).a (width_of r c) + (laid_length (operands_of r i c).b (width_of r c) + length_of (list_for r i) (width_of r c) c.vxrm)
 
   -- the operations on register g of the destination: those that mark its elements, the kind's, and the fill
   unfoldable pub register_list : (g : ℕ) → List MicroOp
@@ -195,7 +194,7 @@ module _ (r : Recipe) (i : VInstr) (c : Cfg) where
 
   -- how many these are, but for the free bits
   abbrev pub mask_register_length : ℕ
-  mask_register_length = 2 + cond (reads r i) 1 0 + length_of (list_for r i) c.vtype.sew
+  mask_register_length = 2 + cond (reads r i) 1 0 + length_of (list_for r i) c.vtype.sew 0
 
   unfoldable pub mask_registers_list : (count : ℕ) → List MicroOp
   mask_registers_list zero = []
@@ -203,7 +202,7 @@ module _ (r : Recipe) (i : VInstr) (c : Cfg) where
 
   -- the lists of the halves of a register, and the row where each leaves what it computes
   abbrev pub wide_lists : Lists
-  wide_lists = record { row = shifted_row (log2 (2 * c.vtype.sew)); body = wide_list r i c }
+  wide_lists = record { row = shifted_row (log2 (2 * c.vtype.sew)); body = wide_list r i c; clips = false; flag = 0 }
 
   -- the operations on register g of a destination that is half as wide as its first operand: those that mark its elements,
   -- those on its halves, and the fill
@@ -218,10 +217,10 @@ module _ (r : Recipe) (i : VInstr) (c : Cfg) where
 
   -- what one half costs, and how many operations it has; and a register
   abbrev pub one_half_counts : Counts
-  one_half_counts = counts_and (laid_counts (halves_of r i c).b (2 * c.vtype.sew)) (counts_of (list_for r i) c.vtype.sew)
+  one_half_counts = counts_and (laid_counts (halves_of r i c).b (2 * c.vtype.sew)) (counts_of (list_for r i) c.vtype.sew c.vxrm)
 
   abbrev pub one_half_length : ℕ
-  one_half_length = laid_length (halves_of r i c).b (2 * c.vtype.sew) + (length_of (list_for r i) c.vtype.sew + 1)
+  one_half_length = laid_length (halves_of r i c).b (2 * c.vtype.sew) + (length_of (list_for r i) c.vtype.sew c.vxrm + 1)
 
   -- what half h of register g costs, and the first n halves
   abbrev pub IsHalfMeasured : (g h : ℕ) → Type 0
@@ -261,7 +260,7 @@ module _ (r : Recipe) (i : VInstr) (c : Cfg) where
   -- what it costs
   unfoldable pub cost_by : Counts
   cost_by =
-      cond (makes_bits r.masked) (compare_cost_of i c (counts_of (list_for r i) c.vtype.sew))
+      cond (makes_bits r.masked) (compare_cost_of i c (counts_of (list_for r i) c.vtype.sew 0))
       (cond (makes_halves r.masked) (cost_of i c (registers_for c.vtype c.vtype.sew) half_counts) (cost_of i c (count_of r c) body_counts))
 
 -- the program of an instruction, of those that are built
@@ -283,6 +282,7 @@ IsLayable (narrow signed by n r row) w g = (r + g / by < 32) × IsElementWidth n
 
 -- register g of the destination and the rows of its operands are there
 pub record IsPlaced (r : Recipe) (i : VInstr) (c : Cfg) (g : ℕ) : Type 0 where
+  pub mode : c.vxrm ≤ 3
   pub vd : i.vd + g < 32
   pub a : row_of (operands_of r i c).a g < 64
   pub b : row_of (operands_of r i c).b g < 64
@@ -305,36 +305,21 @@ pub record IsMaskPlaced (r : Recipe) (i : VInstr) (g : ℕ) : Type 0 where
   pub b : row_of (compare_operands i).b g < 64
   pub rows : FitsRows (list_for r i) (row_of (compare_operands i).a g) (row_of (compare_operands i).b g)
 
--- ---- what a program is for
-
--- What a list leaves in slices that held these registers: the registers that the instruction means and whether it clips an
--- element; or the number that it means for a scalar register, with the registers as they were.
-abbrev pub Leaves : Cfg → List (List ℕ) → Left → (after : Slices) → (clipped : Bool) → Type 0
-Leaves c v (elements e) after clipped = (registers_of after ≡ registers_after c e v) × (clipped ≡ clips_elements c e v)
-Leaves c v (number n) after clipped = (registers_of after ≡ v) × (low 32 after.num ≡ n) × (clipped ≡ false)
-
-abbrev pub LeavesMeaning : Cfg → List (List ℕ) → Option Left → (after : Slices) → (clipped : Bool) → Type 0
-LeavesMeaning c v None after clipped = ⊥
-LeavesMeaning c v (Some left) after clipped = Leaves c v left after clipped
-
--- The list realises the instruction: from any slices whose control number is 0, its replay leaves what the instruction means
--- for the registers before.
-unfoldable pub RealisesInstruction : VInstr → Cfg → (scalar : ℕ) → List MicroOp → Type 0
-RealisesInstruction i c x ops =
-    (s : Slices) → s.num ≡ 0 → c.vlen ≡ 32 * s.columns → LeavesMeaning c (registers_of s) (left_of i c x (registers_of s)) (replay ops s) (clips ops s)
+-- ---- what its lists compute
 
 -- What the list of register g computes, from the rows of its operands, and what it costs with what lays these out.
 pub record IsMade (r : Recipe) (i : VInstr) (c : Cfg) (g : ℕ) : Type 0 where
-  pub computes : Computes (list_for r i) (width_of r c) (row_of (operands_of r i c).a g) (row_of (operands_of r i c).b g) ((operands_of r i c).addend + g) (i.vd + g)
+  pub computes : Computes (list_for r i) (width_of r c) c.vxrm (row_of (operands_of r i c).a g) (row_of (operands_of r i c).b g) ((operands_of r i c).addend + g) (i.vd + g)
+  pub tells : TellsClips (list_for r i) (width_of r c) c.vxrm (row_of (operands_of r i c).a g) (row_of (operands_of r i c).b g) ((operands_of r i c).addend + g) (i.vd + g)
   pub cost : Measured (body_counts r i c) (body_length r i c) (body_list r i c g)
 
 -- What the list of register q of an operand leaves, of which each register has the elements of a half; and what the operations
 -- on register g of the destination cost.
-abbrev pub LeavesHalf : Listed → (w a b : ℕ) → List MicroOp → Type 0
-LeavesHalf list w a b ops = LeavesValue (2 * w) (shifted_row (log2 (2 * w))) shift_rows (λ n. value_of list w (n a) (n b) 0 false) ops
+abbrev pub LeavesHalf : Listed → (w mode a b : ℕ) → List MicroOp → Type 0
+LeavesHalf list w mode a b ops = LeavesLow w (shifted_row (log2 (2 * w))) shift_rows (λ n. value_of list w mode (n a) (n b) 0 false) ops
 
 abbrev pub LeavesPart : Recipe → VInstr → Cfg → (g h : ℕ) → Type 0
-LeavesPart r i c g h = LeavesHalf (list_for r i) c.vtype.sew ((halves_of r i c).a + (2 * g + h)) (row_of (halves_of r i c).b (2 * g + h)) (wide_list r i c (2 * g + h))
+LeavesPart r i c g h = LeavesHalf (list_for r i) c.vtype.sew c.vxrm ((halves_of r i c).a + (2 * g + h)) (row_of (halves_of r i c).b (2 * g + h)) (wide_list r i c (2 * g + h))
 
 pub record IsHalfMade (r : Recipe) (i : VInstr) (c : Cfg) (g : ℕ) : Type 0 where
   pub leaves : (h : ℕ) → h < half_count c.vtype → LeavesPart r i c g h
@@ -342,5 +327,5 @@ pub record IsHalfMade (r : Recipe) (i : VInstr) (c : Cfg) (g : ℕ) : Type 0 whe
 
 -- The same of a list that tells the truths of register g of the operands of a mask.
 pub record IsMaskMade (r : Recipe) (i : VInstr) (c : Cfg) (g : ℕ) : Type 0 where
-  pub computes : Computes (list_for r i) c.vtype.sew (row_of (compare_operands i).a g) (row_of (compare_operands i).b g) i.vd i.vd
-  pub cost : Measured (counts_of (list_for r i) c.vtype.sew) (length_of (list_for r i) c.vtype.sew) (truth_list r i c g)
+  pub computes : Computes (list_for r i) c.vtype.sew 0 (row_of (compare_operands i).a g) (row_of (compare_operands i).b g) i.vd i.vd
+  pub cost : Measured (counts_of (list_for r i) c.vtype.sew 0) (length_of (list_for r i) c.vtype.sew 0) (truth_list r i c g)

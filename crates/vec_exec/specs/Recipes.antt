@@ -13,7 +13,8 @@ use Rattle.gen_logic.specs.Values.{takes_mask, value_of as logic_value}
 use Rattle.gen_logic.specs.declared.kinds.Logic.TheVariants.{And, Or, Xor, Merge, First, Second}
 use Rattle.gen_mul.specs.Kinds.{product_value, product_ops, product_counts, product_length}
 use Rattle.gen_mul.specs.declared.kinds.Product.TheVariants.{Mul, Mulhu, Mulhsu, Mulh, Macc, Nmsac}
-use Rattle.gen_shift.specs.Kinds.{shift_value, shift_ops, shift_counts, shift_length, raw_ops, raw_counts, raw_length}
+use Rattle.gen_shift.specs.Kinds.{shift_value, shift_ops, shift_counts, shift_length, raw_ops, raw_counts, raw_length, rounded_value, rounded_ops, rounded_counts, rounded_length}
+use Rattle.gen_shift.specs.declared.kinds.Shift.{Shift}
 use Rattle.gen_shift.specs.declared.kinds.Shift.TheVariants.{Sll, Srl, Sra}
 use Rattle.micro_ir.specs.Kinds.{Realises, Tells}
 use Rattle.micro_ir.specs.Measures.{counts}
@@ -22,7 +23,8 @@ use Rattle.micro_ir.specs.Steps.{micros}
 use Rattle.micro_ir.specs.WorkRows.{IsOperandRow, result_row}
 use Rattle.micro_ir.specs.declared.op.MicroOp.{MicroOp}
 use Rattle.micro_ir.specs.declared.place.Place.{Place}
-use Rattle.rvv_decode.specs.declared.instruction.OpiOp.TheVariants.{Vadd, Vsub, Vrsub, Vadc, Vsbc, Vmadc, Vmsbc, Vand, Vor, Vxor, Vsll, Vsrl, Vsra, Vmseq, Vmsne, Vmsltu, Vmslt, Vmsleu, Vmsle, Vmsgtu, Vmsgt, Vminu, Vmin, Vmaxu, Vmax, Vmerge, VmvV, Vnsrl, Vnsra}
+use Rattle.row_views.specs.Clips.{ClipsWhere}
+use Rattle.rvv_decode.specs.declared.instruction.OpiOp.TheVariants.{Vadd, Vsub, Vrsub, Vadc, Vsbc, Vmadc, Vmsbc, Vand, Vor, Vxor, Vsll, Vsrl, Vsra, Vmseq, Vmsne, Vmsltu, Vmslt, Vmsleu, Vmsle, Vmsgtu, Vmsgt, Vminu, Vmin, Vmaxu, Vmax, Vmerge, VmvV, Vnsrl, Vnsra, Vssrl, Vssra}
 use Rattle.rvv_decode.specs.declared.instruction.OpmOp.TheVariants.{Vdivu, Vdiv, Vremu, Vrem, Vmulhu, Vmul, Vmulhsu, Vmulh, Vmadd, Vnmsub, Vmacc, Vnmsac, VzextVf2, VzextVf4, VsextVf2, VsextVf4, Vwaddu, Vwadd, Vwsubu, Vwsub, VwadduW, VwaddW, VwsubuW, VwsubW, Vwmulu, Vwmulsu, Vwmul, Vwmaccu, Vwmacc, Vwmaccus, Vwmaccsu}
 use Rattle.rvv_decode.specs.declared.instruction.VOp.{VOp}
 use Rattle.rvv_decode.specs.declared.instruction.VOp.TheVariants.{Opi, Opm}
@@ -30,8 +32,10 @@ use Rattle.frame_meaning.specs.declared.Order.{Order}
 use Rattle.frame_meaning.specs.declared.Order.TheVariants.{Straight, Reversed, Second as SecondAlone, Exchanged, Widening, WideSource, Half, Quarter}
 use Rattle.rvv_meaning.specs.Operations.{log2}
 use Rattle.vec_exec.specs.declared.recipes.Listed.{Listed}
-use Rattle.vec_exec.specs.declared.recipes.Listed.TheVariants.{Bits, Sums, Truths, Choices, Shifts, Products, Divisions, Copies, Halves}
+use Rattle.vec_exec.specs.declared.recipes.Listed.TheVariants.{Bits, Sums, Truths, Choices, Shifts, Products, Roundings, Divisions, Copies, Halves}
 use Rattle.vec_exec.specs.declared.recipes.Recipe.{Recipe}
+use Rattle.vec_exec.specs.declared.recipes.Right.{Right}
+use Rattle.vec_exec.specs.declared.recipes.Right.TheVariants.{Zeros, Sign}
 
 -- one list, on operands that are as wide, or that are extended by zeros, and a signed immediate
 abbrev pub of_two : Listed → Recipe
@@ -100,6 +104,8 @@ recipe_for (Opm Vmadd) = Some (ordered (Products Macc) Exchanged)
 recipe_for (Opm Vnmsub) = Some (ordered (Products Nmsac) Exchanged)
 recipe_for (Opi Vnsrl) = Some (of_unsigned (Halves Srl))
 recipe_for (Opi Vnsra) = Some (of_unsigned (Halves Sra))
+recipe_for (Opi Vssrl) = Some (of_unsigned (Roundings Zeros))
+recipe_for (Opi Vssra) = Some (of_unsigned (Roundings Sign))
 recipe_for (Opm VzextVf2) = Some (ordered Copies Half)
 recipe_for (Opm VzextVf4) = Some (ordered Copies Quarter)
 recipe_for (Opm VsextVf2) = Some (on_signed Copies Half)
@@ -123,6 +129,11 @@ recipe_for _ = None
 
 -- ---- lists
 
+-- what moves a number to the right
+abbrev pub shift_of : Right → Shift
+shift_of Zeros = Srl
+shift_of Sign = Sra
+
 -- the list tells a truth of each element, and so makes the bits of a mask
 abbrev pub makes_bits : Listed → Bool
 makes_bits (Bits kind) = false
@@ -131,6 +142,7 @@ makes_bits (Truths kind) = true
 makes_bits (Choices kind) = false
 makes_bits (Shifts kind) = false
 makes_bits (Products kind) = false
+makes_bits (Roundings right) = false
 makes_bits (Divisions kind) = false
 makes_bits Copies = false
 makes_bits (Halves kind) = false
@@ -148,6 +160,7 @@ takes_row (Truths kind) = truth_takes_mask kind
 takes_row (Choices kind) = false
 takes_row (Shifts kind) = false
 takes_row (Products kind) = false
+takes_row (Roundings right) = false
 takes_row (Divisions kind) = false
 takes_row Copies = false
 takes_row (Halves kind) = false
@@ -168,66 +181,87 @@ FitsRows Copies a b = (a ≡ result_row) × IsOperandRow b
 FitsRows (Divisions kind) a b = IsRowOf kind a × IsRowOf kind b
 FitsRows _ a b = IsOperandRow a × IsOperandRow b
 
--- a place of these rows
-abbrev pub rows : (a b d to : ℕ) → Place
-rows a b d to = record { a = a; b = b; addend = d; to = to; sub = false; mode = 0 }
+-- a place of these rows, with a rounding mode
+abbrev pub rows : (mode a b d to : ℕ) → Place
+rows mode a b d to = record { a = a; b = b; addend = d; to = to; sub = false; mode = mode }
 
--- the list at w bits, from the rows of its operands a, b and d and the register that it writes
-unfoldable pub list_of : Listed → (w a b d to : ℕ) → List MicroOp
-list_of (Bits kind) w a b d to = logic_ops kind w (rows a b d to)
-list_of (Sums kind) w a b d to = sum_ops kind w (rows a b d to)
-list_of (Truths kind) w a b d to = truth_ops kind w (rows a b d to)
-list_of (Choices kind) w a b d to = choice_ops kind w (rows a b d to)
-list_of (Shifts kind) w a b d to = shift_ops kind w (log2 w) (rows a b d to)
-list_of (Products kind) w a b d to = product_ops kind w (rows a b d to)
-list_of (Divisions kind) w a b d to = division_ops kind w (rows a b d to)
-list_of Copies w a b d to = micros w (commit w a to)
-list_of (Halves kind) w a b d to = raw_ops kind (2 * w) (log2 (2 * w)) (rows a b d to)
+-- the list at w bits under a rounding mode, from the rows of its operands a, b and d and the register that it writes
+unfoldable pub list_of : Listed → (w mode a b d to : ℕ) → List MicroOp
+list_of (Bits kind) w mode a b d to = logic_ops kind w (rows mode a b d to)
+list_of (Sums kind) w mode a b d to = sum_ops kind w (rows mode a b d to)
+list_of (Truths kind) w mode a b d to = truth_ops kind w (rows mode a b d to)
+list_of (Choices kind) w mode a b d to = choice_ops kind w (rows mode a b d to)
+list_of (Shifts kind) w mode a b d to = shift_ops kind w (log2 w) (rows mode a b d to)
+list_of (Products kind) w mode a b d to = product_ops kind w (rows mode a b d to)
+list_of (Roundings right) w mode a b d to = rounded_ops (shift_of right) w (log2 w) (rows mode a b d to)
+list_of (Divisions kind) w mode a b d to = division_ops kind w (rows mode a b d to)
+list_of Copies w mode a b d to = micros w (commit w a to)
+list_of (Halves kind) w mode a b d to = raw_ops kind (2 * w) (log2 (2 * w)) (rows mode a b d to)
 
 -- the same, from the rows of a place
 abbrev pub list_at : Listed → (w : ℕ) → Place → List MicroOp
-list_at list w at = list_of list w at.a at.b at.addend at.to
+list_at list w at = list_of list w at.mode at.a at.b at.addend at.to
 
--- its value, from the numbers of its operands and the mask bit
-abbrev pub value_of : Listed → (w a b d : ℕ) → Bool → ℕ
-value_of (Bits kind) w a b d m = logic_value kind w a b m
-value_of (Sums kind) w a b d m = sum_value kind w a b m
-value_of (Truths kind) w a b d m = 0
-value_of (Choices kind) w a b d m = choice_value kind w a b
-value_of (Shifts kind) w a b d m = shift_value kind w (log2 w) a b
-value_of (Products kind) w a b d m = product_value kind w a b d
-value_of (Divisions kind) w a b d m = division_value kind w a b
-value_of Copies w a b d m = a
-value_of (Halves kind) w a b d m = shift_value kind (2 * w) (log2 (2 * w)) a b
+-- its value, from the rounding mode, the numbers of its operands and the mask bit
+abbrev pub value_of : Listed → (w mode a b d : ℕ) → Bool → ℕ
+value_of (Bits kind) w mode a b d m = logic_value kind w a b m
+value_of (Sums kind) w mode a b d m = sum_value kind w a b m
+value_of (Truths kind) w mode a b d m = 0
+value_of (Choices kind) w mode a b d m = choice_value kind w a b
+value_of (Shifts kind) w mode a b d m = shift_value kind w (log2 w) a b
+value_of (Products kind) w mode a b d m = product_value kind w a b d
+value_of (Roundings right) w mode a b d m = rounded_value (shift_of right) mode w (log2 w) a b
+value_of (Divisions kind) w mode a b d m = division_value kind w a b
+value_of Copies w mode a b d m = a
+value_of (Halves kind) w mode a b d m = shift_value kind (2 * w) (log2 (2 * w)) a b
 
 -- the truth that it tells
 abbrev pub truth_of : Listed → (w a b : ℕ) → Bool → Bool
 truth_of (Truths kind) w a b m = truth_value kind w a b m
 truth_of _ w a b m = false
 
+-- it tells which of its results are clipped, and so sets the flag
+abbrev pub tells_clips : Listed → Bool
+tells_clips (Bits kind) = false
+tells_clips (Sums kind) = false
+tells_clips (Truths kind) = false
+tells_clips (Choices kind) = false
+tells_clips (Shifts kind) = false
+tells_clips (Products kind) = false
+tells_clips (Roundings right) = false
+tells_clips (Divisions kind) = false
+tells_clips Copies = false
+tells_clips (Halves kind) = false
+
+-- whether a result is clipped
+abbrev pub clips_of : Listed → (w mode a b d : ℕ) → Bool
+clips_of _ w mode a b d = false
+
 -- its searches, updates and passes
-unfoldable pub counts_of : Listed → (w : ℕ) → Counts
-counts_of (Bits kind) w = logic_counts kind
-counts_of (Sums kind) w = sum_counts kind w
-counts_of (Truths kind) w = truth_counts kind w
-counts_of (Choices kind) w = choice_counts w
-counts_of (Shifts kind) w = shift_counts kind w (log2 w)
-counts_of (Products kind) w = product_counts kind w
-counts_of (Divisions kind) w = division_counts kind w
-counts_of Copies w = counts 2 2 0
-counts_of (Halves kind) w = raw_counts kind (2 * w) (log2 (2 * w))
+unfoldable pub counts_of : Listed → (w mode : ℕ) → Counts
+counts_of (Bits kind) w mode = logic_counts kind
+counts_of (Sums kind) w mode = sum_counts kind w
+counts_of (Truths kind) w mode = truth_counts kind w
+counts_of (Choices kind) w mode = choice_counts w
+counts_of (Shifts kind) w mode = shift_counts kind w (log2 w)
+counts_of (Products kind) w mode = product_counts kind w
+counts_of (Roundings right) w mode = rounded_counts (shift_of right) mode w (log2 w)
+counts_of (Divisions kind) w mode = division_counts kind w
+counts_of Copies w mode = counts 2 2 0
+counts_of (Halves kind) w mode = raw_counts kind (2 * w) (log2 (2 * w))
 
 -- the number of its operations
-unfoldable pub length_of : Listed → (w : ℕ) → ℕ
-length_of (Bits kind) w = logic_length kind
-length_of (Sums kind) w = sum_length kind w
-length_of (Truths kind) w = truth_length kind w
-length_of (Choices kind) w = choice_length w
-length_of (Shifts kind) w = shift_length kind w (log2 w)
-length_of (Products kind) w = product_length kind w
-length_of (Divisions kind) w = division_length kind w
-length_of Copies w = 4
-length_of (Halves kind) w = raw_length kind (2 * w) (log2 (2 * w))
+unfoldable pub length_of : Listed → (w mode : ℕ) → ℕ
+length_of (Bits kind) w mode = logic_length kind
+length_of (Sums kind) w mode = sum_length kind w
+length_of (Truths kind) w mode = truth_length kind w
+length_of (Choices kind) w mode = choice_length w
+length_of (Shifts kind) w mode = shift_length kind w (log2 w)
+length_of (Products kind) w mode = product_length kind w
+length_of (Roundings right) w mode = rounded_length (shift_of right) mode w (log2 w)
+length_of (Divisions kind) w mode = division_length kind w
+length_of Copies w mode = 4
+length_of (Halves kind) w mode = raw_length kind (2 * w) (log2 (2 * w))
 
 -- ---- what a list computes
 
@@ -237,6 +271,16 @@ computes_as false masked w to value truth ops = Realises w to masked value ops
 computes_as true masked w to value truth ops = Tells w masked truth ops
 
 -- The list computes its value, or tells its truth, from operands in these rows.
-unfoldable pub Computes : Listed → (w a b d to : ℕ) → Type 0
-Computes list w a b d to =
-    computes_as (makes_bits list) (takes_row list) w to (λ n m. value_of list w (n a) (n b) (n d) m) (λ n m. truth_of list w (n a) (n b) m) (list_of list w a b d to)
+unfoldable pub Computes : Listed → (w mode a b d to : ℕ) → Type 0
+Computes list w mode a b d to =
+    computes_as (makes_bits list) (takes_row list) w to (λ n m. value_of list w mode (n a) (n b) (n d) m) (λ n m. truth_of list w (n a) (n b) m)
+    (list_of list w mode a b d to)
+
+-- what a list that tells clips does besides
+abbrev pub tells_as : (tells : Bool) → (w : ℕ) → (clipped : (ℕ → ℕ) → Bool) → List MicroOp → Type 0
+tells_as false w clipped ops = Unit {0}
+tells_as true w clipped ops = ClipsWhere w clipped ops
+
+-- The list sets the flag where an active element is clipped, if it tells clips.
+unfoldable pub TellsClips : Listed → (w mode a b d to : ℕ) → Type 0
+TellsClips list w mode a b d to = tells_as (tells_clips list) w (λ n. clips_of list w mode (n a) (n b) (n d)) (list_of list w mode a b d to)

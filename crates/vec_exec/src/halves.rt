@@ -25,11 +25,12 @@ fn emit_wide<D: Width>(list: Listed, width: u8, at: &Place, buf: &mut MicroBuf)
     requires halves { makes_halves list ≡ true }
     requires a { IsOperandRow at.now.a }
     requires b { IsOperandRow at.now.b }
-    requires room { length_of list width ≤ buf.old.spare }
-    ensures ops { buf.new.ops ≡ buf.old.ops ++ list_of list width at.now.a at.now.b at.now.addend at.now.to }
-    ensures spare { buf.new.spare + length_of list width ≡ buf.old.spare }
-    ensures leaves { LeavesHalf list width at.now.a at.now.b (list_of list width at.now.a at.now.b at.now.addend at.now.to) }
-    ensures cost { Measured (counts_of list width) (length_of list width) (list_of list width at.now.a at.now.b at.now.addend at.now.to) }
+    requires room { length_of list width at.now.mode ≤ buf.old.spare }
+    ensures ops { buf.new.ops ≡ buf.old.ops ++ list_of list width at.now.mode at.now.a at.now.b at.now.addend at.now.to }
+    ensures spare { buf.new.spare + length_of list width at.now.mode ≡ buf.old.spare }
+    ensures leaves { LeavesHalf list width at.now.mode at.now.a at.now.b (list_of list width at.now.mode at.now.a at.now.b at.now.addend at.now.to) }
+    ensures cost { Measured (counts_of list width at.now.mode) (length_of list width at.now.mode)
+        (list_of list width at.now.mode at.now.a at.now.b at.now.addend at.now.to) }
 {
     match list {
         Listed::Halves(kind) => emit_raw::<D>(buf, at, kind),
@@ -58,7 +59,7 @@ fn emit_half<D: Width>(
     ensures leaves { LeavesPart recipe i.now cfg.now register half }
     ensures cost { IsHalfMeasured recipe i.now cfg.now register half }
 {
-    let at = half_place(i, register, half);
+    let at = half_place(i, cfg, register, half);
     emit_half_second::<D>(i, cfg, 2 * register + half, buf);
     let list = use_of(recipe, i).list;
     emit_wide::<D>(list, cfg.vtype.sew, &at, buf);

@@ -178,22 +178,25 @@ pub(crate) fn place(recipe: Recipe, i: &VInstr, cfg: &Cfg, register: u8) -> Plac
     ensures b { result.b ≡ row_of (operands_of recipe i.now cfg.now).b register }
     ensures addend { result.addend ≡ (operands_of recipe i.now cfg.now).addend + register }
     ensures to { result.to ≡ i.now.vd + register }
+    ensures mode { result.mode ≡ cfg.now.vxrm }
 {
     let a = first_source(recipe, i, cfg, register);
     let b = second_source(recipe, i, cfg, register);
     let addend = third_source(recipe, i, cfg, register);
-    at_rows(a, b, addend, i.vd + register)
+    rounding_at(cfg.vxrm, a, b, addend, i.vd + register)
 }
 
 // The rows of the operands of half `half` of a register of the destination, of a list that writes no register.
-pub(crate) fn half_place(i: &VInstr, register: u8, half: u8) -> Place
+pub(crate) fn half_place(i: &VInstr, cfg: &Cfg, register: u8, half: u8) -> Place
     requires vs2 { i.now.vs2 + (2 * register + half) < 32 }
     ensures a { result.a ≡ i.now.vs2 + (2 * register + half) }
     ensures b { (sew : ℕ) → result.b ≡ row_of (half_in_vs1 i.now.form sew i.now.vs1) (2 * register + half) }
     ensures addend { result.addend ≡ i.now.vd }
     ensures to { result.to ≡ i.now.vd }
+    ensures mode { result.mode ≡ cfg.now.vxrm }
 {
-    at_rows(i.vs2 + (2 * register + half), half_row(i), i.vd, i.vd)
+    let b = half_row(i);
+    rounding_at(cfg.vxrm, i.vs2 + (2 * register + half), b, i.vd, i.vd)
 }
 
 // The rows of a comparison's operands for a register of their groups.
@@ -203,16 +206,29 @@ pub(crate) fn mask_place(recipe: Recipe, i: &VInstr, register: u8) -> Place
     ensures b { result.b ≡ row_of (compare_operands i.now).b register }
     ensures addend { result.addend ≡ i.now.vd }
     ensures to { result.to ≡ i.now.vd }
+    ensures mode { result.mode ≡ 0 }
 {
     at_rows(i.vs2 + register, second_row(i, register), i.vd, i.vd)
 }
 
-// A place of these rows.
+// A place of these rows, for a list that does not round.
 pub(crate) fn at_rows(a: u8, b: u8, addend: u8, to: u8) -> Place
     ensures a { result.a ≡ a }
     ensures b { result.b ≡ b }
     ensures addend { result.addend ≡ addend }
     ensures to { result.to ≡ to }
+    ensures mode { result.mode ≡ 0 }
+{
+    rounding_at(0, a, b, addend, to)
+}
+
+// A place of these rows, with the rounding mode.
+fn rounding_at(mode: u8, a: u8, b: u8, addend: u8, to: u8) -> Place
+    ensures a { result.a ≡ a }
+    ensures b { result.b ≡ b }
+    ensures addend { result.addend ≡ addend }
+    ensures to { result.to ≡ to }
+    ensures mode { result.mode ≡ mode }
 {
     Place {
         a,
@@ -220,6 +236,6 @@ pub(crate) fn at_rows(a: u8, b: u8, addend: u8, to: u8) -> Place
         addend,
         to,
         sub: false,
-        mode: 0,
+        mode,
     }
 }

@@ -3,10 +3,11 @@
 ghost use Rattle.std.specs.Prelude.{◌≡◌, ℕ, ◌<◌, ◌≤◌, ◌+◌, ◌++◌, true, false};
 ghost use Rattle.micro_ir.specs.Measures.{Measured};
 ghost use Rattle.micro_ir.specs.WorkRows.{IsOperandRow};
+ghost use Rattle.gen_shift.specs.Lists.{goes_up};
 ghost use Rattle.vec_exec.specs.declared.recipes.Listed.{Listed};
 ghost use Rattle.rvv_decode.specs.declared.instruction.VOp.TheVariants.{Opi, Opm};
 ghost use Rattle.vec_exec.specs.Recipes as lists;
-ghost use Rattle.vec_exec.specs.Recipes.{recipe_for, list_of, counts_of, length_of, Computes, FitsRows};
+ghost use Rattle.vec_exec.specs.Recipes.{recipe_for, list_of, counts_of, length_of, Computes, TellsClips, FitsRows};
 
 use bit_laws::Width;
 use frame_meaning::{Order, Signs};
@@ -14,11 +15,18 @@ use gen_arith::{Choice, Sum, Truth, arith_length_law, emit_choice, emit_sum, emi
 use gen_div::{Division, division_length_law, emit_division};
 use gen_logic::{Logic, emit_logic, logic_length_law};
 use gen_mul::{Product, emit_product, product_length_law};
-use gen_shift::{Shift, emit_shift, shift_length_law};
+use gen_shift::{Shift, emit_rounded, emit_shift, shift_length_law};
 use micro_ir::{MicroBuf, Place, emit_commit};
 use rvv_decode::{OpiOp, OpmOp, VOp};
 
-/// A list: a generator's table, and a kind of it; a copy of what is laid out; or a shift at twice the width of the elements,
+/// What comes in at the highest bits of a number that is moved to the right: zeros, or its sign.
+#[derive(Clone, Copy, PartialEq, Eq)]
+pub(crate) enum Right {
+    Zeros,
+    Sign,
+}
+
+/// A list: a generator's table, and a kind of it; a shift to the right that rounds; a copy of what is laid out; or a shift at twice the width of the elements,
 /// which computes one half of a register at a time.
 #[derive(Clone, Copy, PartialEq, Eq)]
 pub(crate) enum Listed {
@@ -28,6 +36,7 @@ pub(crate) enum Listed {
     Choices(Choice),
     Shifts(Shift),
     Products(Product),
+    Roundings(Right),
     Divisions(Division),
     Copies,
     Halves(Shift),
@@ -186,6 +195,8 @@ fn opi_recipe(op: OpiOp) -> Option<Recipe>
         OpiOp::VmvV => ordered(Listed::Bits(Logic::Second), Order::Second),
         OpiOp::Vnsrl => of_unsigned(Listed::Halves(Shift::Srl)),
         OpiOp::Vnsra => of_unsigned(Listed::Halves(Shift::Sra)),
+        OpiOp::Vssrl => of_unsigned(Listed::Roundings(Right::Zeros)),
+        OpiOp::Vssra => of_unsigned(Listed::Roundings(Right::Sign)),
         _ => return None,
     };
     Some(recipe)
@@ -247,9 +258,20 @@ pub(crate) fn makes_halves(list: Listed) -> bool
     matches!(list, Listed::Halves(_))
 }
 
+// What moves a number to the right.
+fn shift_of(right: Right) -> Shift
+    ensures value { result ≡ lists.shift_of right }
+    ensures right { goes_up result ≡ false }
+{
+    match right {
+        Right::Zeros => Shift::Srl,
+        Right::Sign => Shift::Sra,
+    }
+}
+
 // Does nothing. It shows that no list is longer at the widths of elements.
 pub(crate) fn list_length_law()
-    ensures { (list : Listed) (w : ℕ) → w ≤ 32 → length_of list w ≤ 30000 }
+    ensures { (list : Listed) (w mode : ℕ) → w ≤ 32 → length_of list w mode ≤ 30000 }
 {
     logic_length_law();
     arith_length_law();
@@ -259,17 +281,20 @@ pub(crate) fn list_length_law()
 }
 
 /// Appends a list.
-#[tactic(auto, unfolding(crate::specs::Recipes::list_of, crate::specs::Recipes::counts_of, crate::specs::Recipes::length_of, crate::specs::Recipes::Computes))]
+#[tactic(auto, unfolding(crate::specs::Recipes::list_of, crate::specs::Recipes::counts_of, crate::specs::Recipes::length_of, crate::specs::Recipes::Computes, crate::specs::Recipes::TellsClips))]
 pub(crate) fn emit_list<W: Width>(list: Listed, at: &Place, buf: &mut MicroBuf)
     requires whole { lists.makes_halves list ≡ false }
     requires rows { FitsRows list at.now.a at.now.b }
     requires addend { IsOperandRow at.now.addend }
     requires to { at.now.to < 32 }
-    requires room { length_of list W.BITS ≤ buf.old.spare }
-    ensures ops { buf.new.ops ≡ buf.old.ops ++ list_of list W.BITS at.now.a at.now.b at.now.addend at.now.to }
-    ensures spare { buf.new.spare + length_of list W.BITS ≡ buf.old.spare }
-    ensures computes { Computes list W.BITS at.now.a at.now.b at.now.addend at.now.to }
-    ensures cost { Measured (counts_of list W.BITS) (length_of list W.BITS) (list_of list W.BITS at.now.a at.now.b at.now.addend at.now.to) }
+    requires mode { at.now.mode ≤ 3 }
+    requires room { length_of list W.BITS at.now.mode ≤ buf.old.spare }
+    ensures ops { buf.new.ops ≡ buf.old.ops ++ list_of list W.BITS at.now.mode at.now.a at.now.b at.now.addend at.now.to }
+    ensures spare { buf.new.spare + length_of list W.BITS at.now.mode ≡ buf.old.spare }
+    ensures computes { Computes list W.BITS at.now.mode at.now.a at.now.b at.now.addend at.now.to }
+    ensures tells { TellsClips list W.BITS at.now.mode at.now.a at.now.b at.now.addend at.now.to }
+    ensures cost { Measured (counts_of list W.BITS at.now.mode) (length_of list W.BITS at.now.mode)
+        (list_of list W.BITS at.now.mode at.now.a at.now.b at.now.addend at.now.to) }
 {
     match list {
         Listed::Bits(kind) => emit_logic::<W>(buf, at, kind),
@@ -277,6 +302,7 @@ pub(crate) fn emit_list<W: Width>(list: Listed, at: &Place, buf: &mut MicroBuf)
         Listed::Truths(kind) => emit_truth::<W>(buf, at, kind),
         Listed::Choices(kind) => emit_choice::<W>(buf, at, kind),
         Listed::Shifts(kind) => emit_shift::<W>(buf, at, kind),
+        Listed::Roundings(right) => emit_rounded::<W>(buf, at, shift_of(right)),
         Listed::Products(kind) => emit_product::<W>(buf, at, kind),
         Listed::Divisions(kind) => emit_division::<W>(buf, at, kind),
         Listed::Copies => emit_commit(buf, at.a, at.to),

@@ -1,5 +1,5 @@
 -- An instruction whose elements are half as wide as those of its first operand is one that the frame takes.
-use Rattle.std.proofs.Common.{◌≡◌, ◌≢◌, ℕ, zero, suc, ◌+◌, ◌-◌, ◌*◌, ◌/◌, ◌%◌, ◌^◌, ◌<◌, ◌≤◌, Bool, true, false, cond, ◌&&◌, ◌||◌, eqb, ltb, leb, not, List, ◌++◌, refl, sym, ◌∙◌, ap, subst, arith, ◌⊎◌, inl, inr, ⊎_elim}
+use Rattle.std.proofs.Common.{◌≡◌, ◌≢◌, ℕ, zero, suc, ◌+◌, ◌-◌, ◌*◌, ◌/◌, ◌%◌, ◌^◌, ◌<◌, ◌≤◌, Bool, true, false, cond, ◌&&◌, ◌||◌, eqb, ltb, leb, not, List, [], ◌++◌, refl, sym, ◌∙◌, ap, subst, arith, ◌⊎◌, inl, inr, ⊎_elim}
 use Rattle.std.proofs.lemmas.Bool.{cases_lt, cases_Bool, eq-eqb, eqb-true, lt-ltb, ltb-true, and_parts, or_cases, or_left, or_right, false≢true}
 use Rattle.std.proofs.lemmas.Nat.{div-mul-add}
 use Rattle.std.proofs.Math.Nat.{mul-le-mul_right}
@@ -12,16 +12,17 @@ use Rattle.element_ops.specs.Elements.{Registers, element_in, element_of, bits_o
 use Rattle.micro_ir.specs.Pieces.{commit}
 use Rattle.micro_ir.specs.Replay.{replay}
 use Rattle.micro_ir.specs.Steps.{element, steps_on, micros}
-use Rattle.micro_ir.specs.WorkRows.{active_row, scalar_row}
+use Rattle.micro_ir.specs.WorkRows.{active_row, scalar_row, truth_row}
 use Rattle.micro_ir.proofs.Lists.{replay-append}
 use Rattle.micro_ir.proofs.Lift.{replay-columns, element-inside, micros-element}
 use Rattle.micro_ir.proofs.OneElement.{commit-here, commit-row, commit-fits}
+use Rattle.row_views.specs.Clips.{clip_test}
 use Rattle.frame_laws.specs.Shapes.{Shape, Bounds, first_of, element_number}
 use Rattle.frame_laws.specs.Realising.{Splatted, Windowed, Realised}
 use Rattle.frame_laws.specs.Laws.{SameAt, Legal}
 use Rattle.frame_laws.specs.Bytes.{size_of}
 use Rattle.frame_laws.specs.Classes.Operands.{Operand, group, scalar, narrow, operand_number, operand_of, is_read, IsUnwritten}
-use Rattle.frame_laws.specs.Classes.Halved.{halves_row, doubled, Pair, Lists, halves_list, halved_list, HalfValue, half_value, IsHalfReadable, IsHalved, AllLeave, HalvedLaw, HalvedBytesLaw}
+use Rattle.frame_laws.specs.Classes.Halved.{halves_row, doubled, Pair, Lists, halves_list, flag_test, halved_list, HalfValue, half_value, IsHalfReadable, IsHalved, AllLeave, HalvedLaw, HalvedBytesLaw}
 use Rattle.frame_laws.proofs.Elements.{bit_place}
 use Rattle.frame_laws.proofs.Registers.{frame_law}
 use Rattle.frame_laws.proofs.Bytes.{bytes_law}
@@ -31,14 +32,14 @@ use Rattle.frame_laws.proofs.Classes.Halves.{per, value_at, Done, room, halves-d
 -- ---- elements and halves
 
 -- an element of a register lies in one of its halves
-record Halfway (per p : ℕ) : Type 0 where
-  t : ℕ
-  rest : ℕ
-  first : t < 2
-  inside : rest < per
-  is : t * per + rest ≡ p
+pub record Halfway (per p : ℕ) : Type 0 where
+  pub t : ℕ
+  pub rest : ℕ
+  pub first : t < 2
+  pub inside : rest < per
+  pub is : t * per + rest ≡ p
 
-halfway : (per p : ℕ) → p < 2 * per → Halfway per p
+pub halfway : (per p : ℕ) → p < 2 * per → Halfway per p
 halfway per p below =
     ⊎_elim
     (λ (l : p < per). record { t = 0; rest = p; first = omega arith; inside = l; is = omega arith })
@@ -47,12 +48,12 @@ halfway per p below =
 
 -- The numbers of the elements of a register and of those of the registers of the first operand: so many wide elements make a
 -- register.
-record Sizes (i : Shape) (columns : ℕ) : Type 0 where
-  wide : i.vlen / (2 * i.width) ≡ columns * (32 / (2 * i.width))
-  narrow_ones : i.vlen / i.width ≡ 2 * (columns * (32 / (2 * i.width)))
-  lanes : columns * (32 / i.width) ≡ 2 * (columns * (32 / (2 * i.width)))
+pub record Sizes (i : Shape) (columns : ℕ) : Type 0 where
+  pub wide : i.vlen / (2 * i.width) ≡ columns * (32 / (2 * i.width))
+  pub narrow_ones : i.vlen / i.width ≡ 2 * (columns * (32 / (2 * i.width)))
+  pub lanes : columns * (32 / i.width) ≡ 2 * (columns * (32 / (2 * i.width)))
 
-sizes : (i : Shape) (columns : ℕ) → 0 < i.width → 32 / i.width * i.width ≡ 32 → 32 / (2 * i.width) * (2 * i.width) ≡ 32 → i.vlen ≡ 32 * columns → Sizes i columns
+pub sizes : (i : Shape) (columns : ℕ) → 0 < i.width → 32 / i.width * i.width ≡ 32 → 32 / (2 * i.width) * (2 * i.width) ≡ 32 → i.vlen ≡ 32 * columns → Sizes i columns
 sizes i columns pos narrow_lanes wide_lanes long =
     let w = i.width in
     let n = 32 / (2 * w) in
@@ -73,10 +74,19 @@ same-element : (per g t rest : ℕ) → g * (2 * per) + (t * per + rest) ≡ (2 
 same-element per g t rest = omega arith
 
 -- the numbers of the same element, among those of the destination and among those of the first operand
-same-number : (i : Shape) (columns g t rest p : ℕ) → Sizes i columns → t * (columns * (32 / (2 * i.width))) + rest ≡ p → g * (i.vlen / i.width) + p ≡ (2 * g + t) * (i.vlen / (2 * i.width)) + rest
+pub same-number : (i : Shape) (columns g t rest p : ℕ) → Sizes i columns → t * (columns * (32 / (2 * i.width))) + rest ≡ p → g * (i.vlen / i.width) + p ≡ (2 * g + t) * (i.vlen / (2 * i.width)) + rest
 same-number i columns g t rest p size is =
     let per = columns * (32 / (2 * i.width)) in
     ap (λ (n : ℕ). g * n + p) size.narrow_ones ∙ ap (λ (x : ℕ). g * (2 * per) + x) (sym is) ∙ same-element per g t rest ∙ sym (ap (λ (n : ℕ). (2 * g + t) * n + rest) size.wide)
+
+-- what tests the flags changes no element
+flag_test-element : (w : ℕ) (lists : Lists) (w2 k col : ℕ) (s : Slices) → element w2 k col (replay (flag_test w lists) s) ≡ element w2 k col s
+unfolding replay element
+flag_test-element w lists w2 k col s =
+    elim lists.clips as (λ x. element w2 k col (replay (cond x (clip_test w truth_row) []) s) ≡ element w2 k col s) [
+      | true ↦ refl
+      | false ↦ refl
+    ]
 
 -- ---- one register
 
@@ -84,7 +94,7 @@ module _ (i : Shape) (b : Bounds) (with : Pair) (value : HalfValue) (count colum
   to-below : i.vd + g < 32
   to-below = let r : i.vd + i.registers ≤ 32 = halved.framed.room in let l = below in omega arith
 
-  halved-realised : Realised i b g (halved_list i with lists count g)
+  pub halved-realised : Realised i b g (halved_list i with lists count g)
   unfolding Realised
   halved-realised s long splatted stand k col fits inside =
       let w = i.width in
@@ -104,9 +114,13 @@ module _ (i : Shape) (b : Bounds) (with : Pair) (value : HalfValue) (count colum
       let fit : k * w + j < 32 = omega arith in
       element-inside w k col s1 r j inner ∙ sym (bit_place s1 r col (k * w + j) fit) ∙ done.kept r (col * 32 + (k * w + j)) small (place j inner)
       ∙ bit_place s r col (k * w + j) fit ∙ sym (element-inside w k col s r j inner) in
-      let after = element w k col (replay (micros w (commit w halves_row to)) s1) in
-      let commits : after ≡ steps_on (commit w halves_row to) (element w k col s1) = micros-element w k col (commit w halves_row to) s1 (commit-fits w halves_row to (omega arith)) fits l1 in
-      let whole : replay (halved_list i with lists count g) s ≡ replay (micros w (commit w halves_row to)) s1 = replay-append (halves_list i.width with lists g count) (micros w (commit w halves_row to)) s in
+      let s2 = replay (flag_test i.width lists) s1 in
+      let l2 : col < s2.columns = rw (replay-columns (flag_test i.width lists) s1) l1 in
+      let after = element w k col (replay (micros w (commit w halves_row to)) s2) in
+      let commits : after ≡ steps_on (commit w halves_row to) (element w k col s1) =
+      micros-element w k col (commit w halves_row to) s2 (commit-fits w halves_row to (omega arith)) fits l2 ∙ ap (steps_on (commit w halves_row to)) (flag_test-element i.width lists w k col s1) in
+      let whole : replay (halved_list i with lists count g) s ≡ replay (micros w (commit w halves_row to)) s2 =
+      replay-append (halves_list i.width with lists g count) (flag_test i.width lists ++ micros w (commit w halves_row to)) s ∙ replay-append (flag_test i.width lists) (micros w (commit w halves_row to)) s1 in
       let small : i.vd + g < 32 = to-below in
       let here : (j : ℕ) → j < w → after to j ≡ cond (element w k col s active_row j) (element w k col s1 halves_row j) (element w k col s to j) =
       λ j inner. ap (λ (f : ℕ → ℕ → Bool). f to j) commits
@@ -170,7 +184,7 @@ module _ (i : Shape) (b : Bounds) (with : Pair) (value : HalfValue) (count colum
 -- ---- legality
 
 -- the second operand has the widths of the first one
-half-shaped : (i : Shape) (op : Operand) → 8 * (i.width / 8) ≡ i.width → IsHalfReadable i op → IsShaped (doubled i) op
+pub half-shaped : (i : Shape) (op : Operand) → 8 * (i.width / 8) ≡ i.width → IsHalfReadable i op → IsShaped (doubled i) op
 half-shaped i (group r) whole readable = absurd readable
 half-shaped i scalar whole readable = tt
 half-shaped i (narrow signed by n r row) whole readable =
@@ -185,7 +199,7 @@ reads_second (group x) g r = false
 reads_second scalar g r = false
 reads_second (narrow signed by n x row) g r = eqb r (x + g)
 
-reads : Pair → (count g r : ℕ) → Bool
+pub reads : Pair → (count g r : ℕ) → Bool
 reads with count g r = eqb r (with.a + (2 * g + 0)) || ((ltb 1 count && eqb r (with.a + (2 * g + 1))) || reads_second with.b g r)
 
 second-safe : (i : Shape) (op : Operand) (g r : ℕ) → IsHalfReadable i op → g < i.registers → reads_second op g r ≡ true → IsUnwritten i g r
@@ -221,14 +235,50 @@ first-read with count g t r first inside is =
     or_right (eqb r (with.a + (2 * g + 0))) _ (or_left (ltb 1 count && eqb r (with.a + (2 * g + 1))) (reads_second with.b g r) (rw (lt-ltb 1 count (omega arith), eq-eqb r (with.a + (2 * g + 1)) z) refl)))
     (cases_lt t 1)
 
-halved-legal : (i : Shape) (with : Pair) (value : HalfValue) (count columns : ℕ) → IsHalved i with value count columns → Legal i (reads with count) columns
+-- a half that holds an active element is one of those that are computed
+pub in-count : (i : Shape) (with : Pair) (value : HalfValue) (count columns : ℕ) → IsHalved i with value count columns → Sizes i columns → (g p t rest : ℕ) → t * (columns * (32 / (2 * i.width))) + rest ≡ p → t < 2
+    → g * (i.vlen / i.width) + p < i.len → t < count
+in-count i with value count columns halved size g p t rest is first less =
+    let per = columns * (32 / (2 * i.width)) in
+    let some : 0 < count = halved.some in
+    ⊎_elim
+    (λ (two : count ≡ 2). omega arith)
+    (λ (few : i.len ≤ i.vlen / (2 * i.width)).
+    let small : i.len ≤ per = omega (arith, few, size.wide) in
+    ⊎_elim
+    (λ (l : t < 1). omega arith)
+    (λ (l : 1 ≤ t). let m : 1 * per ≤ t * per = mul-le-mul_right per l in absurd (omega (arith, is)))
+    (cases_lt t 1))
+    halved.halves
+
+-- the operands of an element depend on the registers alone that are read for it
+pub same-operands : (i : Shape) (with : Pair) (value : HalfValue) (count columns g p : ℕ) (u v : Registers) → IsHalved i with value count columns → p < i.vlen / i.width → first_of i g + p < i.len → SameAt (reads with count g) i.vlen u v
+    → (element_in i.vlen u with.a (2 * i.width) (first_of i g + p) ≡ element_in i.vlen v with.a (2 * i.width) (first_of i g + p))
+    × (operand_number with.b i.vlen (2 * i.width) i.scalar u (first_of i g + p) ≡ operand_number with.b i.vlen (2 * i.width) i.scalar v (first_of i g + p))
 unfolding reads
-halved-legal i with value count columns halved =
+same-operands i with value count columns g p u v halved inside less same =
     let f = halved.framed in
     let pos : 0 < i.width = f.width in
     let wide_pos : 0 < 2 * i.width = omega arith in
     let size = sizes i columns pos f.lanes halved.lanes f.vlen in
     let per_wide : i.vlen / (2 * i.width) * (2 * i.width) ≡ i.vlen = whole-register (2 * i.width) i.vlen columns wide_pos halved.lanes f.vlen in
+    let per = columns * (32 / (2 * i.width)) in
+    let h = halfway per p (omega (arith, inside, size.narrow_ones)) in
+    let q = 2 * g + h.t in
+    let number : g * (i.vlen / i.width) + p ≡ q * (i.vlen / (2 * i.width)) + h.rest = same-number i columns g h.t h.rest p size h.is in
+    let within : h.t < count = in-count i with value count columns halved size g p h.t h.rest h.is h.first less in
+    let place : h.rest < i.vlen / (2 * i.width) = subst (λ (n : ℕ). h.rest < n) (sym size.wide) h.inside in
+    let a = same-operand (doubled i) (group with.a) q h.rest u v tt per_wide place (λ r at x inner. same r at (first-read with count g h.t r h.first within x) inner) in
+    let b = same-operand (doubled i) with.b q h.rest u v (half-shaped i with.b halved.whole halved.b) per_wide place
+    (λ r at x inner. same r at (or_right (eqb r (with.a + (2 * g + 0))) _ (or_right (ltb 1 count && eqb r (with.a + (2 * g + 1))) _ (second-read i with.b g h.t r halved.b h.first x))) inner) in
+    let first_at : Registers → ℕ → ℕ = λ f x. element_in i.vlen f with.a (2 * i.width) x in
+    let second_at : Registers → ℕ → ℕ = λ f x. operand_number with.b i.vlen (2 * i.width) i.scalar f x in
+    (ap (first_at u) number ∙ a ∙ sym (ap (first_at v) number), ap (second_at u) number ∙ b ∙ sym (ap (second_at v) number))
+
+pub halved-legal : (i : Shape) (with : Pair) (value : HalfValue) (count columns : ℕ) → IsHalved i with value count columns → Legal i (reads with count) columns
+unfolding reads
+halved-legal i with value count columns halved =
+    let f = halved.framed in
     record {
       framed = f;
       sources = λ g r l t.
@@ -244,35 +294,14 @@ halved-legal i with value count columns halved =
           (or_cases (ltb 1 count && eqb r (with.a + (2 * g + 1))) (reads_second with.b g r) x))
           (or_cases (eqb r (with.a + (2 * g + 0))) ((ltb 1 count && eqb r (with.a + (2 * g + 1))) || reads_second with.b g r) t);
       reads_only = λ g u v p c l inside less same.
-          let per = columns * (32 / (2 * i.width)) in
-          let h = halfway per p (omega (arith, inside, size.narrow_ones)) in
-          let q = 2 * g + h.t in
-          let number : g * (i.vlen / i.width) + p ≡ q * (i.vlen / (2 * i.width)) + h.rest = same-number i columns g h.t h.rest p size h.is in
-          let within : h.t < count = in-count i with value count columns halved size g p h.t h.rest h.is h.first less in
-          let place : h.rest < i.vlen / (2 * i.width) = subst (λ (n : ℕ). h.rest < n) (sym size.wide) h.inside in
-          let a = same-operand (doubled i) (group with.a) q h.rest u v tt per_wide place (λ r at x inner. same r at (first-read with count g h.t r h.first within x) inner) in
-          let b = same-operand (doubled i) with.b q h.rest u v (half-shaped i with.b halved.whole halved.b) per_wide place
-          (λ r at x inner. same r at (or_right (eqb r (with.a + (2 * g + 0))) _ (or_right (ltb 1 count && eqb r (with.a + (2 * g + 1))) _ (second-read i with.b g h.t r halved.b h.first x))) inner) in
-          let at : Registers → ℕ → ℕ = λ f x. value (element_in i.vlen f with.a (2 * i.width) x) (operand_number with.b i.vlen (2 * i.width) i.scalar f x) in
-          halved.result u (g * (i.vlen / i.width) + p) c ∙ ap (at u) number ∙ (λ z. value (a z) (b z)) ∙ sym (ap (at v) number) ∙ sym (halved.result v (g * (i.vlen / i.width) + p) c);
+          let x = same-operands i with value count columns g p u v halved inside less same in
+          halved.result u (first_of i g + p) c ∙ rw (x.0, x.1) (sym (halved.result v (first_of i g + p) c));
     }
-  where
-    in-count : (i : Shape) (with : Pair) (value : HalfValue) (count columns : ℕ) → IsHalved i with value count columns → Sizes i columns → (g p t rest : ℕ) → t * (columns * (32 / (2 * i.width))) + rest ≡ p → t < 2
-        → g * (i.vlen / i.width) + p < i.len → t < count
-    in-count i with value count columns halved size g p t rest is first less =
-        let per = columns * (32 / (2 * i.width)) in
-        let some : 0 < count = halved.some in
-        ⊎_elim
-        (λ (two : count ≡ 2). omega arith)
-        (λ (few : i.len ≤ i.vlen / (2 * i.width)).
-        let small : i.len ≤ per = omega (arith, few, size.wide) in
-        ⊎_elim
-        (λ (l : t < 1). omega arith)
-        (λ (l : 1 ≤ t). let m : 1 * per ≤ t * per = mul-le-mul_right per l in absurd (omega (arith, is)))
-        (cases_lt t 1))
-        halved.halves
 
 -- ---- the laws
+
+pub double-bytes : (w : ℕ) → 8 * (w / 8) ≡ w → 8 * (2 * w / 8) ≡ 2 * w
+double-bytes w whole = omega (arith, whole)
 
 pub halved_law : HalvedLaw
 halved_law i b with value lists count v s halved bounded leave holds =
@@ -289,6 +318,3 @@ halved_bytes_law i b with value lists count s halved bounded leave some =
     bytes_law i b (reads with count) (halved_list i with lists count) (half_value i with value v) s (halved-legal i with value count s.columns halved) bounded
     (λ g l. halved-realised i b with value count s.columns g lists halved leave l) some halved.whole
     (λ e less. halved.result (bits_of v) e (mask_bit_of v 0 e) ∙ rw (same (group with.a) e tt, same with.b e (half-shaped i with.b halved.whole halved.b)) refl)
-  where
-    double-bytes : (w : ℕ) → 8 * (w / 8) ≡ w → 8 * (2 * w / 8) ≡ 2 * w
-    double-bytes w whole = omega (arith, whole)

@@ -16,7 +16,7 @@ use Rattle.micro_ir.proofs.Lists.{replay-append}
 use Rattle.micro_ir.proofs.Lift.{replay-columns}
 use Rattle.frame_laws.specs.Shapes.{Shape, Bounds, first_of, element_number}
 use Rattle.frame_laws.specs.Realising.{Splatted, Realised}
-use Rattle.frame_laws.specs.Laws.{Legal}
+use Rattle.frame_laws.specs.Laws.{SameAt, Legal}
 use Rattle.frame_laws.specs.Bytes.{size_of}
 use Rattle.frame_laws.proofs.Registers.{frame_law}
 use Rattle.frame_laws.proofs.Bytes.{bytes_law}
@@ -28,7 +28,7 @@ use Rattle.frame_laws.specs.Classes.Plain.{Operands, Value, with_operands, plain
 -- ---- what lays the operands out
 
 -- what an operand that can be read is shaped like
-shaped : (i : Shape) (op : Operand) → IsReadable i op → IsShaped i op
+pub shaped : (i : Shape) (op : Operand) → IsReadable i op → IsShaped i op
 shaped i (group r) readable = tt
 shaped i scalar readable = tt
 shaped i (narrow signed by n r row) readable =
@@ -50,17 +50,17 @@ present i scalar g below readable = readable
 present i (narrow signed by n r row) g below readable = (readable.0, (readable.1 g below).0)
 
 -- The operands stand in their rows after what lays them out; the rows up to that of the scalar stay.
-record Ready (i : Shape) (with : Operands) (g k col : ℕ) (v : Registers) (e now : ℕ → ℕ → Bool) : Type 0 where
-  a : number i.width (now (row_of with.a g)) ≡ operand_number with.a i.vlen i.width i.scalar v (element_number i g k col)
-  b : number i.width (now (row_of with.b g)) ≡ operand_number with.b i.vlen i.width i.scalar v (element_number i g k col)
-  addend : number i.width (now (with.addend + g)) ≡ element_in i.vlen v with.addend i.width (element_number i g k col)
-  kept : (r j : ℕ) → r ≤ scalar_row → j < i.width → now r j ≡ e r j
+pub record Ready (i : Shape) (with : Operands) (g k col : ℕ) (v : Registers) (e now : ℕ → ℕ → Bool) : Type 0 where
+  pub a : number i.width (now (row_of with.a g)) ≡ operand_number with.a i.vlen i.width i.scalar v (element_number i g k col)
+  pub b : number i.width (now (row_of with.b g)) ≡ operand_number with.b i.vlen i.width i.scalar v (element_number i g k col)
+  pub addend : number i.width (now (with.addend + g)) ≡ element_in i.vlen v with.addend i.width (element_number i g k col)
+  pub kept : (r j : ℕ) → r ≤ scalar_row → j < i.width → now r j ≡ e r j
 
 -- the slices once the operands are laid out
-abbrev ready_slices : Shape → Operands → (g : ℕ) → Slices → Slices
+abbrev pub ready_slices : Shape → Operands → (g : ℕ) → Slices → Slices
 ready_slices i with g s = replay (laid_out with.b i.width g) (replay (laid_out with.a i.width g) s)
 
-ready : (i : Shape) (with : Operands) (value : Value) (columns g k col : ℕ) (s : Slices) → IsPlain i with value columns → g < i.registers
+pub ready : (i : Shape) (with : Operands) (value : Value) (columns g k col : ℕ) (s : Slices) → IsPlain i with value columns → g < i.registers
     → i.vlen ≡ 32 * s.columns → Splatted i s → k * i.width + i.width ≤ 32 → col < s.columns
     → Ready i with g k col (bit_in s) (element i.width k col s) (element i.width k col (ready_slices i with g s))
 ready i with value columns g k col s plain below long splatted fits inside =
@@ -89,7 +89,7 @@ ready i with value columns g k col s plain below long splatted fits inside =
     }
 
 -- a kind's list, after what lays its operands out, realises a register where it realises its value
-plain-realised : (i : Shape) (b : Bounds) (with : Operands) (value : Value) (columns g : ℕ) (body : ℕ → List MicroOp) → IsPlain i with value columns → g < i.registers
+pub plain-realised : (i : Shape) (b : Bounds) (with : Operands) (value : Value) (columns g : ℕ) (body : ℕ → List MicroOp) → IsPlain i with value columns → g < i.registers
     → Realises i.width (i.vd + g) i.reads (λ n m. value (n (row_of with.a g)) (n (row_of with.b g)) (n (with.addend + g)) m) (body g)
     → Realised i b g (with_operands i.width with body g)
 unfolding Realises Realised
@@ -121,15 +121,28 @@ read-safe i scalar g r readable below t = absurd (false≢true t)
 read-safe i (narrow signed by n x row) g r readable below t = let e : r ≡ x + g / by = eqb-true r (x + g / by) t in rw e (readable.1 g below)
 
 -- a register is read for one of the operands
-reads : Operands → (g r : ℕ) → Bool
+pub reads : Operands → (g r : ℕ) → Bool
 reads with g r = is_read with.a g r || (is_read with.b g r || is_read (group with.addend) g r)
 
-plain-legal : (i : Shape) (with : Operands) (value : Value) (columns : ℕ) → IsPlain i with value columns → Legal i (reads with) columns
+-- the operands of an element depend on the registers alone that are read for it
+pub same-operands : (i : Shape) (with : Operands) (value : Value) (columns g p : ℕ) (u v : Registers) → IsPlain i with value columns → p < i.vlen / i.width → SameAt (reads with g) i.vlen u v
+    → (operand_number with.a i.vlen i.width i.scalar u (first_of i g + p) ≡ operand_number with.a i.vlen i.width i.scalar v (first_of i g + p))
+    × (operand_number with.b i.vlen i.width i.scalar u (first_of i g + p) ≡ operand_number with.b i.vlen i.width i.scalar v (first_of i g + p))
+    × (element_in i.vlen u with.addend i.width (first_of i g + p) ≡ element_in i.vlen v with.addend i.width (first_of i g + p))
+unfolding reads
+same-operands i with value columns g p u v plain below same =
+    let f = plain.framed in
+    let per : i.vlen / i.width * i.width ≡ i.vlen = whole-register i.width i.vlen columns f.width f.lanes f.vlen in (
+      same-operand i with.a g p u v (shaped i with.a plain.a) per below (λ r at x h. same r at (or_left (is_read with.a g r) _ x) h),
+      same-operand i with.b g p u v (shaped i with.b plain.b) per below (λ r at x h. same r at (or_right (is_read with.a g r) _ (or_left (is_read with.b g r) _ x)) h),
+      same-operand i (group with.addend) g p u v tt per below (λ r at x h. same r at (or_right (is_read with.a g r) _ (or_right (is_read with.b g r) _ x)) h),
+    )
+
+pub plain-legal : (i : Shape) (with : Operands) (value : Value) (columns : ℕ) → IsPlain i with value columns → Legal i (reads with) columns
 unfolding reads
 plain-legal i with value columns plain =
     let f = plain.framed in
     let third = group with.addend in
-    let per : i.vlen / i.width * i.width ≡ i.vlen = whole-register i.width i.vlen columns f.width f.lanes f.vlen in
     record {
       framed = f;
       sources = λ g r l t.
@@ -142,12 +155,8 @@ plain-legal i with value columns plain =
           (or_cases (is_read with.b g r) (is_read third g r) x))
           (or_cases (is_read with.a g r) (is_read with.b g r || is_read third g r) t);
       reads_only = λ g u v p c l below less same.
-          plain.result u (first_of i g + p) c
-          ∙ rw (
-            same-operand i with.a g p u v (shaped i with.a plain.a) per below (λ r at x h. same r at (or_left (is_read with.a g r) _ x) h),
-            same-operand i with.b g p u v (shaped i with.b plain.b) per below (λ r at x h. same r at (or_right (is_read with.a g r) _ (or_left (is_read with.b g r) _ x)) h),
-            same-operand i third g p u v tt per below (λ r at x h. same r at (or_right (is_read with.a g r) _ (or_right (is_read with.b g r) _ x)) h),
-          ) (sym (plain.result v (first_of i g + p) c));
+          let x = same-operands i with value columns g p u v plain below same in
+          plain.result u (first_of i g + p) c ∙ rw (x.0, x.1, x.2) (sym (plain.result v (first_of i g + p) c));
     }
 
 -- ---- the laws

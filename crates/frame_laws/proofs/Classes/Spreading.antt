@@ -13,9 +13,10 @@ use Rattle.element_ops.specs.Elements.{Registers, element_in}
 use Rattle.gen_shift.specs.Kinds.{extension_ops}
 use Rattle.gen_shift.proofs.Extension.{extends-sign}
 use Rattle.gen_shift.specs.Laws.{ExtendsSign}
-use Rattle.micro_ir.specs.Replay.{replay}
+use Rattle.micro_ir.specs.Replay.{replay, all_keep_control}
 use Rattle.micro_ir.specs.Steps.{element}
 use Rattle.micro_ir.specs.WorkRows.{scalar_row}
+use Rattle.micro_ir.proofs.Keeping.{micros-keep}
 use Rattle.micro_ir.proofs.Lift.{replay-columns}
 use Rattle.frame_laws.specs.Shapes.{Shape, element_number}
 use Rattle.frame_laws.specs.Realising.{Splatted}
@@ -145,3 +146,13 @@ laid-bits i op g s r at pos lanes inside present free =
     let before = in_element i.width (32 / i.width) s r at pos lanes inside in
     let now = in_element i.width (32 / i.width) s1 r at pos lanes inside1 in
     now.bit ∙ kept-element i op g (at % 32 / i.width) (at / 32) s before.fits before.inside present r (at % 32 % i.width) free before.below ∙ sym before.bit
+
+-- what lays an operand out leaves the control numbers
+pub laid-keep : (op : Operand) (w g : ℕ) → all_keep_control (laid_out op w g) ≡ true
+laid-keep (group r) w g = refl
+laid-keep scalar w g = refl
+laid-keep (narrow signed by n r row) w g = extended-keep signed n w row
+  where
+    extended-keep : (signed : Bool) (n w row : ℕ) → all_keep_control (cond signed (extension_ops n w row) []) ≡ true
+    extended-keep true n w row = micros-keep w _
+    extended-keep false n w row = refl

@@ -1,14 +1,17 @@
 -- The class of instructions each element of which is computed from the elements at the same place of up to three operands.
 -- These are as wide, or narrower and laid out before they are used.
-use Rattle.std.specs.Prelude.{◌≡◌, ℕ, ◌+◌, ◌*◌, ◌/◌, ◌<◌, Bool, false, List, ◌++◌}
+use Rattle.std.specs.Prelude.{◌≡◌, ℕ, ◌+◌, ◌*◌, ◌/◌, ◌<◌, Bool, false, ◌&&◌, List, ◌++◌}
 use Rattle.bit_rows.specs.Slices.{Slices}
 use Rattle.cam_chain.specs.Views.{registers_of}
 use Rattle.element_ops.specs.Elements.{Registers, element_in, element_of, mask_bit_of}
+use Rattle.element_ops.specs.Places.{is_active}
+use Rattle.fold_laws.specs.Folds.{any}
+use Rattle.row_views.specs.Clips.{ClipsWhere}
 use Rattle.micro_ir.specs.declared.op.MicroOp.{MicroOp}
-use Rattle.micro_ir.specs.Replay.{replay}
+use Rattle.micro_ir.specs.Replay.{replay, clips}
 use Rattle.frame_laws.specs.Shapes.{Shape, Bounds, Bounded}
 use Rattle.frame_laws.specs.Programs.{program}
-use Rattle.frame_laws.specs.Meaning.{after}
+use Rattle.frame_laws.specs.Meaning.{place_in, after}
 use Rattle.micro_ir.specs.Kinds.{Realises}
 use Rattle.frame_laws.specs.Laws.{Framed, Holds}
 use Rattle.frame_laws.specs.Bytes.{size_of, registers_after}
@@ -67,3 +70,32 @@ PlainBytesLaw =
     (i : Shape) (b : Bounds) (with : Operands) (value : Value) (body : ℕ → List MicroOp) (s : Slices)
     → IsPlain i with value s.columns → Bounded i b → AllCompute i.width i.vd i.registers i.reads with value body → 0 < s.columns → 8 * (i.width / 8) ≡ i.width
     → registers_of (replay (program i b (with_operands i.width with body)) s) ≡ registers_after i (plain_value i with value (registers_of s)) (registers_of s)
+
+-- ---- clips
+
+-- whether the result of an element is clipped, from the operands' numbers
+abbrev pub ClipTest : Type 0
+ClipTest = (a b addend : ℕ) → Bool
+
+-- from registers that are bits, and from registers that are lists of bytes
+abbrev pub plain_clipped : (vlen w x : ℕ) → Operands → ClipTest → Registers → ℕ → Bool
+plain_clipped vlen w x with test v e = test (operand_number with.a vlen w x v e) (operand_number with.b vlen w x v e) (element_in vlen v with.addend w e)
+
+abbrev pub plain_clip : Shape → Operands → ClipTest → List (List ℕ) → ℕ → Bool
+plain_clip i with test v e =
+    test (operand_of with.a (size_of i) i.width i.scalar v e) (operand_of with.b (size_of i) i.width i.scalar v e) (element_of (size_of i) v with.addend i.width e)
+
+-- The list of each register of the destination sets the flag where the result of an active element is clipped.
+abbrev pub AllClip : (width registers : ℕ) → Operands → ClipTest → (body : ℕ → List MicroOp) → Type 0
+AllClip width registers with test body =
+    (g : ℕ) → g < registers → ClipsWhere width (λ n. test (n (row_of with.a g)) (n (row_of with.b g)) (n (with.addend + g))) (body g)
+
+-- The program of a plain instruction whose lists do so sets the flag exactly where an active element is clipped, as the
+-- registers before it tell as lists of bytes.
+abbrev pub PlainClipLaw : Type 0
+PlainClipLaw =
+    (i : Shape) (b : Bounds) (with : Operands) (value : Value) (test : ClipTest) (body : ℕ → List MicroOp) (s : Slices)
+    → IsPlain i with value s.columns → Bounded i b → AllCompute i.width i.vd i.registers i.reads with value body → AllClip i.width i.registers with test body
+    → 0 < s.columns → 8 * (i.width / 8) ≡ i.width
+    → clips (program i b (with_operands i.width with body)) s
+    ≡ any (i.registers * (i.vlen / i.width)) (λ e. is_active (place_in i (mask_bit_of (registers_of s) 0) e) && plain_clip i with test (registers_of s) e)

@@ -26,7 +26,7 @@ emit_wide-requires-clause-b g c = rw (c.half_place-at.ensures.b c.args.cfg.now.v
 
 pub emit_wide-requires-clause-room : goal.emit_wide-requires-clause-room
 emit_wide-requires-clause-room g c =
-    rw c.use_of-list.ensures.list (omega (arith, c.requires.room, rw (sym c.requires.width) at c.emit_half_second.ensures.spare))
+    rw (c.use_of-list.ensures.list, c.half_place-at.ensures.mode) (omega (arith, c.requires.room, rw (sym c.requires.width) at c.emit_half_second.ensures.spare))
 
 pub returns-clause-ops : goal.returns-clause-ops
 returns-clause-ops g c =
@@ -39,6 +39,7 @@ returns-clause-ops g c =
       c.half_place-at.ensures.b c.args.cfg.now.vtype.sew,
       c.half_place-at.ensures.addend,
       c.half_place-at.ensures.to,
+      c.half_place-at.ensures.mode,
       c.use_of-list.ensures.list,
       c.raw_row-from.ensures,
       c.BITS.ensures,
@@ -48,7 +49,7 @@ returns-clause-ops g c =
 
 pub returns-clause-spare : goal.returns-clause-spare
 returns-clause-spare g c =
-    omega (arith, c.push.ensures.spare, rw c.use_of-list.ensures.list at c.emit_wide.ensures.spare, rw (sym c.requires.width) at c.emit_half_second.ensures.spare)
+    omega (arith, c.push.ensures.spare, rw (c.use_of-list.ensures.list, c.half_place-at.ensures.mode) at c.emit_wide.ensures.spare, rw (sym c.requires.width) at c.emit_half_second.ensures.spare)
 
 pub returns-clause-leaves : goal.returns-clause-leaves
 returns-clause-leaves g c =
@@ -57,6 +58,7 @@ returns-clause-leaves g c =
       c.half_place-at.ensures.b c.args.cfg.now.vtype.sew,
       c.half_place-at.ensures.addend,
       c.half_place-at.ensures.to,
+      c.half_place-at.ensures.mode,
       c.use_of-list.ensures.list,
     ) at c.emit_wide.ensures.leaves
 
@@ -67,6 +69,7 @@ returns-clause-cost g c =
       c.half_place-at.ensures.b c.args.cfg.now.vtype.sew,
       c.half_place-at.ensures.addend,
       c.half_place-at.ensures.to,
+      c.half_place-at.ensures.mode,
       c.use_of-list.ensures.list,
     ) at c.emit_wide.ensures.cost in
     let laid = rw (sym c.requires.width) at c.emit_half_second.ensures.cost in

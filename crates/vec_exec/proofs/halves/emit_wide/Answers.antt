@@ -1,3 +1,4 @@
+use Rattle.vec_exec.proofs.Listing.{leaves-half}
 use Rattle.vec_exec.specs.Recipes.{list_of, counts_of, length_of}
 use Rattle.vec_exec.proofs.Widths.{log2-is}
 use Rattle.vec_exec.proofs.halves.emit_wide.Goals as goal
@@ -24,7 +25,7 @@ pub returns-clause-leaves : goal.returns-clause-leaves
 unfolding list_of
 returns-clause-leaves g c =
     let log = log2-is g.D.Width.BITS g.D.Width.LOG g.met.D.Width.power g.met.D.Width.divides g.met.D.Width.least in
-    rw (c.in-Halves.is, c.requires.wide, log) c.emit_raw.ensures.leaves
+    rw (c.in-Halves.is, c.requires.wide, log) (leaves-half c.args.width g.D.Width.BITS _ _ _ _ c.requires.wide c.emit_raw.ensures.leaves)
 
 pub returns-clause-cost : goal.returns-clause-cost
 unfolding list_of counts_of length_of

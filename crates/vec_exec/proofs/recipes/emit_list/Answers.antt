@@ -1,4 +1,4 @@
-use Rattle.std.proofs.Common.{◌≡◌, ◌<◌, Bool, true, false, ◌||◌, refl, arith}
+use Rattle.std.proofs.Common.{◌≡◌, ◌<◌, Bool, true, false, ◌||◌, refl, sym, arith}
 use Rattle.vec_exec.specs.Recipes.{FitsRows, list_of, counts_of, length_of, Computes}
 use Rattle.vec_exec.proofs.Copied.{copied, copied-measured}
 use Rattle.vec_exec.proofs.Widths.{log2-is}
@@ -54,6 +54,36 @@ returns-in-Shifts-clause-cost g c =
     let log = log2-is g.W.Width.BITS g.W.Width.LOG g.met.W.Width.power g.met.W.Width.divides g.met.W.Width.least in
     rw (c.in-Shifts.is, log) c.emit_shift.ensures.cost
 
+pub emit_rounded-requires-clause-room : goal.emit_rounded-requires-clause-room
+unfolding length_of
+emit_rounded-requires-clause-room g c =
+    let log = log2-is g.W.Width.BITS g.W.Width.LOG g.met.W.Width.power g.met.W.Width.divides g.met.W.Width.least in
+    rw (c.shift_of.ensures.value, sym log) (rw c.in-Roundings.is at c.requires.room)
+
+pub returns-in-Roundings-clause-ops : goal.returns-in-Roundings-clause-ops
+unfolding list_of
+returns-in-Roundings-clause-ops g c =
+    let log = log2-is g.W.Width.BITS g.W.Width.LOG g.met.W.Width.power g.met.W.Width.divides g.met.W.Width.least in
+    rw (c.in-Roundings.is, log, sym c.shift_of.ensures.value) c.emit_rounded.ensures.ops
+
+pub returns-in-Roundings-clause-spare : goal.returns-in-Roundings-clause-spare
+unfolding length_of
+returns-in-Roundings-clause-spare g c =
+    let log = log2-is g.W.Width.BITS g.W.Width.LOG g.met.W.Width.power g.met.W.Width.divides g.met.W.Width.least in
+    rw (c.in-Roundings.is, log, sym c.shift_of.ensures.value) c.emit_rounded.ensures.spare
+
+pub returns-in-Roundings-clause-computes : goal.returns-in-Roundings-clause-computes
+unfolding Computes list_of
+returns-in-Roundings-clause-computes g c =
+    let log = log2-is g.W.Width.BITS g.W.Width.LOG g.met.W.Width.power g.met.W.Width.divides g.met.W.Width.least in
+    rw (c.in-Roundings.is, log, sym c.shift_of.ensures.value) (c.emit_rounded.ensures.realises false)
+
+pub returns-in-Roundings-clause-cost : goal.returns-in-Roundings-clause-cost
+unfolding list_of counts_of length_of
+returns-in-Roundings-clause-cost g c =
+    let log = log2-is g.W.Width.BITS g.W.Width.LOG g.met.W.Width.power g.met.W.Width.divides g.met.W.Width.least in
+    rw (c.in-Roundings.is, log, sym c.shift_of.ensures.value) c.emit_rounded.ensures.cost
+
 pub emit_logic-requires-clause-a : goal.emit_logic-requires-clause-a
 emit_logic-requires-clause-a g c = let rows : FitsRows c.args.list c.args.at.now.a c.args.at.now.b = c.requires.rows in (rw c.in-Bits.is at rows).0
 
@@ -83,6 +113,12 @@ emit_shift-requires-clause-a g c = let rows : FitsRows c.args.list c.args.at.now
 
 pub emit_shift-requires-clause-b : goal.emit_shift-requires-clause-b
 emit_shift-requires-clause-b g c = let rows : FitsRows c.args.list c.args.at.now.a c.args.at.now.b = c.requires.rows in (rw c.in-Shifts.is at rows).1
+
+pub emit_rounded-requires-clause-a : goal.emit_rounded-requires-clause-a
+emit_rounded-requires-clause-a g c = let rows : FitsRows c.args.list c.args.at.now.a c.args.at.now.b = c.requires.rows in (rw c.in-Roundings.is at rows).0
+
+pub emit_rounded-requires-clause-b : goal.emit_rounded-requires-clause-b
+emit_rounded-requires-clause-b g c = let rows : FitsRows c.args.list c.args.at.now.a c.args.at.now.b = c.requires.rows in (rw c.in-Roundings.is at rows).1
 
 pub emit_commit-requires-clause-row : goal.emit_commit-requires-clause-row
 emit_commit-requires-clause-row g c = let rows : FitsRows c.args.list c.args.at.now.a c.args.at.now.b = c.requires.rows in

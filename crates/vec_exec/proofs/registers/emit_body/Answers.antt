@@ -17,9 +17,12 @@ emit_list-requires-clause-rows g c = rw (c.use_of-list.ensures.list, c.place-at.
 pub emit_list-requires-clause-addend : goal.emit_list-requires-clause-addend
 emit_list-requires-clause-addend g c = rw c.place-at.ensures.addend (inl c.requires.placed.addend)
 
+pub emit_list-requires-clause-mode : goal.emit_list-requires-clause-mode
+emit_list-requires-clause-mode g c = rw c.place-at.ensures.mode c.requires.placed.mode
+
 pub emit_list-requires-clause-room : goal.emit_list-requires-clause-room
 emit_list-requires-clause-room g c =
-    rw c.use_of-list.ensures.list (omega (arith, rw c.requires.width at c.requires.room, c.emit_first.ensures.spare, c.emit_second.ensures.spare))
+    rw (c.use_of-list.ensures.list, c.place-at.ensures.mode) (omega (arith, rw c.requires.width at c.requires.room, c.emit_first.ensures.spare, c.emit_second.ensures.spare))
 
 pub returns-clause-ops : goal.returns-clause-ops
 returns-clause-ops g c =
@@ -31,19 +34,21 @@ returns-clause-ops g c =
       c.place-at.ensures.b,
       c.place-at.ensures.addend,
       c.place-at.ensures.to,
+      c.place-at.ensures.mode,
       c.use_of-list.ensures.list,
       c.requires.width,
     ) (simp append_assoc)
 
 pub returns-clause-spare : goal.returns-clause-spare
 returns-clause-spare g c =
-    rw c.requires.width (omega (arith, c.emit_first.ensures.spare, c.emit_second.ensures.spare, rw c.use_of-list.ensures.list at c.emit_list.ensures.spare))
+    rw c.requires.width (omega (arith, c.emit_first.ensures.spare, c.emit_second.ensures.spare, rw (c.use_of-list.ensures.list, c.place-at.ensures.mode) at c.emit_list.ensures.spare))
 
 pub returns-clause-made : goal.returns-clause-made
 returns-clause-made g c = record {
-  computes = rw c.requires.width (rw (c.place-at.ensures.a, c.place-at.ensures.b, c.place-at.ensures.addend, c.place-at.ensures.to, c.use_of-list.ensures.list) at c.emit_list.ensures.computes);
+  computes = rw c.requires.width (rw (c.place-at.ensures.a, c.place-at.ensures.b, c.place-at.ensures.addend, c.place-at.ensures.to, c.place-at.ensures.mode, c.use_of-list.ensures.list) at c.emit_list.ensures.computes);
+  tells = rw c.requires.width (rw (c.place-at.ensures.a, c.place-at.ensures.b, c.place-at.ensures.addend, c.place-at.ensures.to, c.place-at.ensures.mode, c.use_of-list.ensures.list) at c.emit_list.ensures.tells);
   cost = rw c.requires.width
       (measured-append _ _ _ _ _ _ c.emit_first.ensures.cost
       (measured-append _ _ _ _ _ _ c.emit_second.ensures.cost
-      (rw (c.place-at.ensures.a, c.place-at.ensures.b, c.place-at.ensures.addend, c.place-at.ensures.to, c.use_of-list.ensures.list) at c.emit_list.ensures.cost)));
+      (rw (c.place-at.ensures.a, c.place-at.ensures.b, c.place-at.ensures.addend, c.place-at.ensures.to, c.place-at.ensures.mode, c.use_of-list.ensures.list) at c.emit_list.ensures.cost)));
 }

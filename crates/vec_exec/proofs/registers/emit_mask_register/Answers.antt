@@ -21,6 +21,7 @@ returns-clause-ops g c =
       c.mask_place-at.ensures.b,
       c.mask_place-at.ensures.addend,
       c.mask_place-at.ensures.to,
+      c.mask_place-at.ensures.mode,
       c.first_of-first.ensures,
       c.use_of-mask.ensures.reads,
       c.use_of-mask.ensures.masked,
