@@ -4,3 +4,4 @@ pub mod Laws
 pub mod Costs
 pub mod Masks
 pub mod Halves
+pub mod Realising

@@ -11,8 +11,8 @@ use Rattle.rvv_decode.specs.declared.instruction.VInstr.{VInstr}
 use Rattle.vtype_cfg.specs.declared.configuration.Cfg.{Cfg}
 use Rattle.rvv_meaning.specs.Elementwise.{registers_after, clips as clips_elements}
 use Rattle.rvv_meaning.specs.Operations.{Operation, operation_for, on_elements}
-use Rattle.rvv_meaning.specs.Vectors.{elements}
-use Rattle.vec_exec.specs.Programs.{Leaves, RealisesInstruction}
+use Rattle.rvv_meaning.specs.Whole.{elements}
+use Rattle.frame_meaning.specs.Realising.{Leaves, RealisesInstruction}
 use Rattle.cam_chain.specs.declared.counts.Counts.{Counts}
 use Rattle.machine.specs.Moments.{slices_by, counts_by}
 

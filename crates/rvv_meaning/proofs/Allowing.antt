@@ -20,11 +20,12 @@ use Rattle.rvv_meaning.specs.declared.Flow.TheVariants.{Next as GoesOn, Jump, Ca
 use Rattle.rvv_meaning.specs.declared.Meaning.TheVariants.{Scalar, Vector}
 use Rattle.rvv_meaning.specs.declared.Next.{Next}
 use Rattle.rvv_meaning.specs.declared.Next.TheVariants.{Stop, Perform}
-use Rattle.rvv_meaning.specs.Elementwise.{cfg_of, is_ones, place, registers_by, element_after, clips_below}
+use Rattle.rvv_meaning.specs.Elementwise.{Elementwise, cfg_of, is_ones, place, registers_by, element_after, clips_below}
 use Rattle.rvv_meaning.specs.LoadsAndStores.{Outcome, outcome_by, outcome, loads, stores, cfg_after, stop, moved, bad, address, field_address, registers_loaded, loaded_by, slot_after, bytes_of, stored_all, pages_stored}
 use Rattle.rvv_meaning.specs.VectorAccesses.{is_store, access_of, shape_of, trims_of}
 use Rattle.rvv_meaning.specs.Operations.{Operation, operation_for, elements_at, on_elements}
-use Rattle.rvv_meaning.specs.Vectors.{VectorEffect, elements, scalar_operand, completed, configuration_effect, elements_effect, access_outcome, flow_after, access_effect, left_effect, no_effect, effect_by, vector_effect}
+use Rattle.rvv_meaning.specs.Whole.{Left, elements, number, Leaving, whole_for}
+use Rattle.rvv_meaning.specs.Vectors.{VectorEffect, left_as, number_effect, scalar_operand, completed, configuration_effect, elements_effect, access_outcome, flow_after, access_effect, left_effect, no_effect, effect_by, vector_effect}
 use Rattle.rvv_meaning.specs.States.{Core, next, core_after, carried_out, after_flow, called, executed_vector, vector_effect_at, with_vector_effect, with_effect, effect_at}
 use Rattle.rvv_meaning.specs.Allowed.{MayHold, Allowed}
 
@@ -64,33 +65,38 @@ module _ (c : Core) (taken : List ℕ) where
   -- ---- the effect of a vector instruction does not depend on the policy
 
   module _ (i : VInstr) (p q : Policy) where
-    clips-same : (o : Operation) (n : ℕ)
-        → clips_below (cfg_of c.csrs p) (on_elements i (cfg_of c.csrs p) (scalar_operand i c.regs) o) c.vectors n
-        ≡ clips_below (cfg_of c.csrs q) (on_elements i (cfg_of c.csrs q) (scalar_operand i c.regs) o) c.vectors n
-    unfolding clips_below elements_at
-    clips-same o zero = refl
-    clips-same o (suc n) =
-        let e = on_elements i (cfg_of c.csrs p) (scalar_operand i c.regs) o in
-        ap (λ (b : Bool). b || (is_active (place (cfg_of c.csrs p) e c.vectors n) && e.clipped c.vectors n)) (clips-same o n)
+    clips-same : (e : Elementwise) (n : ℕ) → clips_below (cfg_of c.csrs p) e c.vectors n ≡ clips_below (cfg_of c.csrs q) e c.vectors n
+    unfolding clips_below
+    clips-same e zero = refl
+    clips-same e (suc n) = ap (λ (b : Bool). b || (is_active (place (cfg_of c.csrs p) e c.vectors n) && e.clipped c.vectors n)) (clips-same e n)
 
-    vectors-same : (o : Operation)
-        → registers_by (cfg_of c.csrs p) (on_elements i (cfg_of c.csrs p) (scalar_operand i c.regs) o) c.vectors
-        ≡ registers_by (cfg_of c.csrs q) (on_elements i (cfg_of c.csrs q) (scalar_operand i c.regs) o) c.vectors
-    unfolding registers_by element_after elements_at
-    vectors-same o = refl
+    vectors-same : (e : Elementwise) → registers_by (cfg_of c.csrs p) e c.vectors ≡ registers_by (cfg_of c.csrs q) e c.vectors
+    unfolding registers_by element_after
+    vectors-same e = refl
 
-    same-for : (o : Option Operation)
-        → option_map_or (left_effect i c.pc c.regs c.csrs c.mem c.vectors p) (option_map (λ x. elements (on_elements i (cfg_of c.csrs p) (scalar_operand i c.regs) x)) o) (no_effect i c.pc c.regs c.csrs c.mem c.vectors p)
-        ≡ option_map_or (left_effect i c.pc c.regs c.csrs c.mem c.vectors q) (option_map (λ x. elements (on_elements i (cfg_of c.csrs q) (scalar_operand i c.regs) x)) o) (no_effect i c.pc c.regs c.csrs c.mem c.vectors q)
-    unfolding elements_effect elements_at
-    same-for None = refl
-    same-for (Some o) = λ z. record {
+    left-same : (l : Left) → left_effect i c.pc c.regs c.csrs c.mem c.vectors p l ≡ left_effect i c.pc c.regs c.csrs c.mem c.vectors q l
+    unfolding elements_effect number_effect
+    left-same (elements e) = λ z. record {
       flow = GoesOn;
       regs = c.regs;
-      csrs = completed i c.pc c.regs c.csrs c.mem c.vectors p (clips-same o c.csrs.vl z);
+      csrs = completed i c.pc c.regs c.csrs c.mem c.vectors p (clips-same e e.len z);
       mem = c.mem;
-      vectors = vectors-same o z;
+      vectors = vectors-same e z;
     }
+    left-same (number n) = refl
+
+    operation-same : (o : Operation) → on_elements i (cfg_of c.csrs p) (scalar_operand i c.regs) o ≡ on_elements i (cfg_of c.csrs q) (scalar_operand i c.regs) o
+    unfolding elements_at
+    operation-same o = refl
+
+    same-for : (o : Option Operation) (w : Option Leaving)
+        → option_map_or (left_effect i c.pc c.regs c.csrs c.mem c.vectors p) (left_as o w i (cfg_of c.csrs p) (scalar_operand i c.regs) c.vectors) (no_effect i c.pc c.regs c.csrs c.mem c.vectors p)
+        ≡ option_map_or (left_effect i c.pc c.regs c.csrs c.mem c.vectors q) (left_as o w i (cfg_of c.csrs q) (scalar_operand i c.regs) c.vectors) (no_effect i c.pc c.regs c.csrs c.mem c.vectors q)
+    same-for None None = refl
+    same-for None (Some leaving) = left-same (leaving i (record (cfg_of c.csrs p) { policy = Keep }) (scalar_operand i c.regs) c.vectors)
+    same-for (Some o) w =
+        left-same (elements (on_elements i (cfg_of c.csrs p) (scalar_operand i c.regs) o))
+        ∙ ap (λ (e : Elementwise). left_effect i c.pc c.regs c.csrs c.mem c.vectors q (elements e)) (operation-same o)
 
     -- the configurations that the two policies give
     abbrev first : Cfg
@@ -152,8 +158,8 @@ module _ (c : Core) (taken : List ℕ) where
     same-by : (op : VOp) → effect_by i c.pc c.regs c.csrs c.mem c.vectors p op ≡ effect_by i c.pc c.regs c.csrs c.mem c.vectors q op
     unfolding configuration_effect
     same-by (Config op) = refl
-    same-by (Opi op) = same-for (operation_for (Opi op))
-    same-by (Opm op) = same-for (operation_for (Opm op))
+    same-by (Opi op) = same-for (operation_for (Opi op)) (whole_for (Opi op))
+    same-by (Opm op) = same-for (operation_for (Opm op)) (whole_for (Opm op))
     same-by (Moves op) = access-same op
 
     effect-same : vector_effect i c.pc c.regs c.csrs c.mem c.vectors p ≡ vector_effect i c.pc c.regs c.csrs c.mem c.vectors q

@@ -2,6 +2,7 @@
 pub mod Vectors
 pub mod Elementwise
 pub mod Operations
+pub mod Whole
 pub mod VectorAccesses
 pub mod LoadsAndStores
 pub mod Calls

@@ -14,6 +14,7 @@ use Rattle.vtype_cfg.specs.declared.configuration.Avl.{Avl}
 use Rattle.vtype_cfg.specs.declared.configuration.Avl.TheVariants.{Given, Max, Keep}
 use Rattle.vtype_cfg.specs.declared.configuration.Cfg.{Cfg}
 use Rattle.vtype_cfg.specs.declared.configuration.Policy.{Policy}
+use Rattle.vtype_cfg.specs.declared.configuration.Policy.TheVariants.{Keep as Kept}
 use Rattle.vtype_cfg.specs.declared.vtype.Vtype.{Vtype}
 use Rattle.vtype_cfg.specs.Settings.{vtype_of, bits_of, configured}
 use Rattle.rvv_meaning.specs.declared.Csrs.{Csrs}
@@ -21,10 +22,11 @@ use Rattle.rvv_meaning.specs.declared.Flow.{Flow}
 use Rattle.rvv_meaning.specs.declared.Flow.TheVariants.{Next, Trap as Traps}
 use Rattle.rvv_meaning.specs.Elementwise.{Elementwise, cfg_of, registers_by, clips}
 use Rattle.rvv_meaning.specs.LoadsAndStores.{Outcome, outcome}
-use Rattle.rvv_meaning.specs.Operations.{operation_for, on_elements}
+use Rattle.rvv_meaning.specs.Operations.{Operation, operation_for, on_elements}
 use Rattle.rvv_meaning.specs.Scalar.{load_fault, store_fault}
 use Rattle.rvv_meaning.specs.Scalar.Registers.{written}
 use Rattle.rvv_meaning.specs.VectorAccesses.{is_store}
+use Rattle.rvv_meaning.specs.Whole.{Left, elements, number, Leaving, whole_for}
 
 -- What a vector instruction leaves: where the program goes on, the scalar registers, the control registers, the memory, and
 -- the vector registers, where `ones` says which of the agnostic elements become all ones, element by element.
@@ -60,29 +62,27 @@ scalar_in_form I i regs = 0
 abbrev pub scalar_operand : VInstr → List ℕ → ℕ
 scalar_operand i regs = scalar_in_form i.form i regs
 
--- What an instruction leaves that computes from the vector registers: elements of registers, or the number of a scalar
--- register (no instruction of the second kind is built yet).
-pub data Left : Type 0 where
-  elements : Elementwise → Left
-  number : ℕ → Left
+-- What an instruction leaves of these registers: by its operation on elements at the same place, or as a whole, for which it
+-- plays no part what becomes of agnostic elements. None is left of an instruction that is not built.
+abbrev pub left_as : Option Operation → Option Leaving → VInstr → Cfg → (scalar : ℕ) → (vectors : List (List ℕ)) → Option Left
+left_as (Some o) whole i c scalar vectors = Some (elements (on_elements i c scalar o))
+left_as None whole i c scalar vectors = option_map (λ leaving. leaving i (record c { policy = Kept }) scalar vectors) whole
 
--- What an instruction leaves of these registers, where its meaning stands here. They are given first, since a length may
--- depend on them.
 abbrev pub left_by : VOp → VInstr → Cfg → (scalar : ℕ) → (vectors : List (List ℕ)) → Option Left
-left_by op i c scalar vectors = option_map (λ o. elements (on_elements i c scalar o)) (operation_for op)
+left_by op i c scalar vectors = left_as (operation_for op) (whole_for op) i c scalar vectors
 
 abbrev pub left_of : VInstr → Cfg → (scalar : ℕ) → (vectors : List (List ℕ)) → Option Left
 left_of i c scalar vectors = left_by i.op i c scalar vectors
 
--- whether an operation on elements is built
-abbrev pub is_on_elements : VOp → Bool
-is_on_elements op = is_some (operation_for op)
+-- whether an instruction is built that computes from the vector registers
+abbrev pub is_computed : VOp → Bool
+is_computed op = is_some (operation_for op) || is_some (whole_for op)
 
 -- whether an instruction is built
 abbrev pub is_built : VOp → Bool
 is_built (Config op) = true
 is_built (Moves op) = true
-is_built op = is_on_elements op
+is_built op = is_computed op
 
 -- What an instruction finds: its place, the scalar registers, the control registers, the memory, the vector registers, and
 -- what becomes of agnostic elements.

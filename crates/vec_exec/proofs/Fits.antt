@@ -4,8 +4,6 @@ use Rattle.std.specs.Prelude.{is_some, ℤ, pos, negsuc, ◌*ℤ◌, int_div, in
 use Rattle.std.specs.Int.{int_shr, int_div_euclid}
 use Rattle.rvv_decode.specs.declared.instruction.OpiOp.TheVariants.{Vadd, Vsub, Vrsub, Vadc, Vsbc, Vmadc, Vmsbc, Vand, Vor, Vxor, Vsll, Vsrl, Vsra, Vmseq, Vmsne, Vmsltu, Vmslt, Vmsleu, Vmsle, Vmsgtu, Vmsgt, Vminu, Vmin, Vmaxu, Vmax, Vmerge, VmvV, Vnsrl, Vnsra}
 use Rattle.rvv_decode.specs.declared.instruction.OpmOp.TheVariants.{Vdivu, Vdiv, Vremu, Vrem, Vmulhu, Vmul, Vmulhsu, Vmulh, Vmadd, Vnmsub, Vmacc, Vnmsac, VzextVf2, VzextVf4, VsextVf2, VsextVf4, Vwaddu, Vwadd, Vwsubu, Vwsub, VwadduW, VwaddW, VwsubuW, VwsubW, Vwmulu, Vwmulsu, Vwmul, Vwmaccu, Vwmacc, Vwmaccus, Vwmaccsu}
-use Rattle.rvv_decode.specs.declared.instruction.ConfigOp.{ConfigOp}
-use Rattle.rvv_decode.specs.declared.instruction.MemoryOp.{MemoryOp}
 use Rattle.rvv_decode.specs.declared.instruction.VOp.{VOp}
 use Rattle.rvv_decode.specs.declared.instruction.VOp.TheVariants.{Opi, Opm, Config, Memory}
 use Rattle.vtype_cfg.specs.Classes.{Class, class_of, opi_class, opm_class, compare, narrowing}
@@ -13,7 +11,6 @@ use Rattle.bit_laws.specs.Numbers.{low}
 use Rattle.bit_laws.specs.Signed.{signed}
 use Rattle.gen_shift.specs.Kinds as shifts
 use Rattle.rvv_meaning.specs.Operations.{low_int, log2, Operation, operation_for}
-use Rattle.rvv_meaning.specs.Vectors.{is_built}
 use Rattle.frame_meaning.specs.declared.Order.{Order}
 use Rattle.frame_meaning.specs.declared.Order.TheVariants.{Straight, Widening, WideSource, Half, Quarter}
 use Rattle.frame_meaning.specs.declared.Signs.{Signs}
@@ -227,10 +224,3 @@ fitted op r named = from (operation_for op) refl (rw named at (fits op))
     from : (o : Option Operation) → operation_for op ≡ o → FitsIf op (Some r) o → Fitted op r
     from (Some o) is h = record { operation = o; is = is; fits = h }
     from None is h = absurd h
-
--- an operation of no configuration, load or store is built where it has a recipe
-pub built-by-recipe : (op : VOp) → ((config : ConfigOp) → op ≡ Config config → ⊥) → ((access : MemoryOp) → op ≡ Memory access → ⊥) → is_some (recipe_for op) ≡ is_built op
-built-by-recipe (Opi op) other apart = recipe-when-built (Opi op)
-built-by-recipe (Opm op) other apart = recipe-when-built (Opm op)
-built-by-recipe (Memory op) other apart = absurd (apart op refl)
-built-by-recipe (Config op) other apart = absurd (other op refl)

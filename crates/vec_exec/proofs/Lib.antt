@@ -2,6 +2,7 @@
 pub mod Widths
 pub mod Copied
 pub mod Fits
+pub mod Computed
 pub mod Written
 pub mod Keeping
 pub mod Placed

@@ -38,7 +38,6 @@ use Rattle.steer_net.specs.Moves.{is_wide}
 use Rattle.vtype_cfg.specs.declared.configuration.Cfg.{Cfg}
 use Rattle.rvv_meaning.specs.Elementwise.{is_ones, registers_after, clips as clips_elements}
 use Rattle.rvv_meaning.specs.Operations.{log2}
-use Rattle.rvv_meaning.specs.Vectors.{Left, elements, number, left_of}
 use Rattle.vec_exec.specs.declared.recipes.Listed.{Listed}
 use Rattle.vec_exec.specs.declared.recipes.Recipe.{Recipe}
 use Rattle.vec_exec.specs.Recipes.{recipe_for, makes_bits, makes_halves, list_of, value_of, counts_of, length_of, FitsRows, Computes}
@@ -305,23 +304,7 @@ pub record IsMaskPlaced (r : Recipe) (i : VInstr) (g : ℕ) : Type 0 where
   pub b : row_of (compare_operands i).b g < 64
   pub rows : FitsRows (list_for r i) (row_of (compare_operands i).a g) (row_of (compare_operands i).b g)
 
--- ---- what a program is for
-
--- What a list leaves in slices that held these registers: the registers that the instruction means and whether it clips an
--- element; or the number that it means for a scalar register, with the registers as they were.
-abbrev pub Leaves : Cfg → List (List ℕ) → Left → (after : Slices) → (clipped : Bool) → Type 0
-Leaves c v (elements e) after clipped = (registers_of after ≡ registers_after c e v) × (clipped ≡ clips_elements c e v)
-Leaves c v (number n) after clipped = (registers_of after ≡ v) × (low 32 after.num ≡ n) × (clipped ≡ false)
-
-abbrev pub LeavesMeaning : Cfg → List (List ℕ) → Option Left → (after : Slices) → (clipped : Bool) → Type 0
-LeavesMeaning c v None after clipped = ⊥
-LeavesMeaning c v (Some left) after clipped = Leaves c v left after clipped
-
--- The list realises the instruction: from any slices whose control number is 0, its replay leaves what the instruction means
--- for the registers before.
-unfoldable pub RealisesInstruction : VInstr → Cfg → (scalar : ℕ) → List MicroOp → Type 0
-RealisesInstruction i c x ops =
-    (s : Slices) → s.num ≡ 0 → c.vlen ≡ 32 * s.columns → LeavesMeaning c (registers_of s) (left_of i c x (registers_of s)) (replay ops s) (clips ops s)
+-- ---- what its lists compute
 
 -- What the list of register g computes, from the rows of its operands, and what it costs with what lays these out.
 pub record IsMade (r : Recipe) (i : VInstr) (c : Cfg) (g : ℕ) : Type 0 where

@@ -1,15 +1,17 @@
 // The plan of an instruction.
-ghost use Rattle.std.specs.Prelude.{◌≡◌, ℕ, ◌+◌, ◌*◌, ◌/◌, ◌<◌, ◌≤◌, ◌++◌, [], Some, length, true, false, cond, not, IsTrue};
+ghost use Rattle.std.specs.Prelude.{◌≡◌, ℕ, ◌+◌, ◌*◌, ◌/◌, ◌<◌, ◌≤◌, ◌++◌, [], Some, length, true, false, cond, not, IsTrue, is_some};
 ghost use Rattle.micro_ir.specs.Replay.{AllInRange, tally};
 ghost use Rattle.rvv_decode.specs.Ranges.{IsInRange};
 ghost use Rattle.vtype_cfg.specs.Legality.{is_legal};
 ghost use Rattle.vtype_cfg.specs.Settings.{is_valid};
 ghost use Rattle.legal_groups.specs.Facts.{registers_for};
-ghost use Rattle.rvv_meaning.specs.Vectors.{is_built, is_on_elements};
+ghost use Rattle.rvv_meaning.specs.Vectors.{is_built, is_computed};
+ghost use Rattle.rvv_meaning.specs.Whole.{whole_for};
+ghost use Rattle.frame_meaning.specs.Realising.{RealisesInstruction};
 ghost use Rattle.frame_meaning.specs.Shapes.{has_scalar};
 ghost use Rattle.vec_exec.specs.Recipes.{recipe_for};
 ghost use Rattle.vec_exec.specs.Recipes as lists;
-ghost use Rattle.vec_exec.specs.Programs.{prog, program_by, is_engine, RealisesInstruction, cost, cost_by, scalar_list, width_of};
+ghost use Rattle.vec_exec.specs.Programs.{prog, program_by, is_engine, cost, cost_by, scalar_list, width_of};
 
 use crate::halves::emit_half_registers;
 use crate::operands::{EIGHTHS, at_rows, half_scalar_number, scalar_number, width};
@@ -51,11 +53,30 @@ fn registers(cfg: &Cfg, width: u8) -> u8
     (eighths / u32::from(EIGHTHS)).max(1) as u8
 }
 
-/// Whether an instruction is built: one of configuration, a load, a store, or one whose operation has a recipe.
+// Whether an instruction is built that reads a whole group or a whole mask.
+#[tactic(auto, unfolding(rvv_meaning::specs::Whole::whole_for))]
+const fn is_whole(op: VOp) -> bool
+    ensures { result ≡ is_some (whole_for op) }
+{
+    matches!(op, VOp::Opm(OpmOp::VmvXS))
+}
+
+// Whether an instruction is built that computes from the vector registers.
+fn computed(op: VOp) -> bool
+    ensures { result ≡ is_computed op }
+{
+    recipe_of(op).is_some() || is_whole(op)
+}
+
+/// Whether an instruction is built: one of configuration, a load, a store, one whose operation has a recipe, or one that reads
+/// whole groups or masks.
 pub fn built(i: &VInstr) -> bool
     ensures value { result ≡ is_built i.now.op }
 {
-    matches!(i.op, VOp::Config(_) | VOp::Memory(_)) || recipe_of(i.op).is_some()
+    match i.op {
+        VOp::Config(_) | VOp::Memory(_) => true,
+        VOp::Opi(_) | VOp::Opm(_) => computed(i.op),
+    }
 }
 
 // The operations that put a number into the scalar's row, where the instruction has a scalar.
@@ -259,10 +280,11 @@ fn emit_program(recipe: Recipe, i: &VInstr, cfg: &Cfg, scalar: u32, buf: &mut Mi
 /// Writes the program of an instruction into an empty buffer with room for 262,144 operations: its scalar into a row,
 /// where it has one; for each register of its groups, in rising order, its active elements, their mask bits, where the
 /// mask is an operand, and the list of its kind, with what lays its operands out where these are narrower; and what fills the agnostic elements, where these become ones. `scalar` is
-/// the value of x[rs1], where the instruction takes it. The instruction is legal under the configuration, and one on
-/// elements that is built.
+/// the value of x[rs1], where the instruction takes it. The instruction is legal under the configuration, is built, and has
+/// a program.
 pub fn plan(i: &VInstr, cfg: &Cfg, scalar: u32, buf: &mut MicroBuf)
-    requires built { is_on_elements i.now.op ≡ true }
+    requires built { is_computed i.now.op ≡ true }
+    requires engine { is_engine i.now ≡ true }
     requires fields { IsInRange i.now }
     requires legal { is_legal i.now cfg.now.vtype cfg.now.vstart ≡ true }
     requires valid { IsTrue (is_valid cfg.now) }
