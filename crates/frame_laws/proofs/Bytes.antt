@@ -22,7 +22,8 @@ use Rattle.micro_ir.proofs.Lift.{replay-columns}
 use Rattle.frame_laws.specs.Shapes.{Shape}
 use Rattle.frame_laws.specs.Programs.{program}
 use Rattle.frame_laws.specs.Meaning.{outcome, place_in, element_after, written, after}
-use Rattle.frame_laws.specs.Bytes.{size_of, element_of_after, registers_after, BytesLaw, bit_of_after, mask_after, BitsLaw}
+use Rattle.frame_laws.specs.Bytes.{size_of, element_of_after, registers_after, BytesLaw, HeldLaw, bit_of_after, mask_after, BitsLaw}
+use Rattle.frame_laws.specs.Laws.{Holds}
 use Rattle.frame_laws.proofs.Registers.{computed, frame_law}
 
 -- ---- lists of bytes with the same bits
@@ -125,15 +126,12 @@ same_elements i value v size long by pos whole bytes results = λ x e. each e x
 resized : (a b : ℕ) (v : List (List ℕ)) → a ≡ b → AreRegisters a v → AreRegisters b v
 resized a b v e are = subst (λ n. AreRegisters n v) e are
 
-pub bytes_law : BytesLaw
+pub held_law : HeldLaw
 unfolding written
-bytes_law i b source body value s legal bounded real some whole results =
+held_law i value s t cols vlen pos some whole results holds =
     let v = registers_of s in
-    let t = replay (program i b body) s in
     let size = 4 * s.columns in
     let elements = element_of_after i value v in
-    let cols : t.columns ≡ s.columns = replay-columns (program i b body) s in
-    let vlen : i.vlen ≡ 32 * s.columns = legal.framed.vlen in
     let long : i.vlen ≡ 8 * size = omega arith in
     let by : size_of i ≡ size = omega arith in
     let are : AreRegisters size v = are-registers_of s in
@@ -145,11 +143,20 @@ bytes_law i b source body value s legal bounded real some whole results =
     let in_t : k < 32 * t.columns = rw cols (omega arith) in
     let in_v : k < i.vlen = omega arith in
     bits-registers_of t r k register in_t
-    ∙ frame_law i b source body (bits_of v) s legal bounded real (λ r at x h. sym (bits-registers_of s r at x (rw vlen at h))) r k register in_v
+    ∙ holds r k register in_v
     ∙ ap (λ (f : ℕ → ℕ). with_elements_in i.vlen (bits_of v) i.vd i.registers i.width f r k) same
     ∙ ap (λ (n : ℕ). with_elements_in n (bits_of v) i.vd i.registers i.width elements r k) long
-    ∙ sym (bits-with_elements size v i.vd i.registers i.width elements r k are whole legal.framed.width register inside)
+    ∙ sym (bits-with_elements size v i.vd i.registers i.width elements r k are whole pos register inside)
     ∙ ap (λ (n : ℕ). bits_of (with_elements n v i.vd i.registers i.width elements) r k) (sym by))
+
+-- slices hold their own registers
+pub holds-own : (s : Slices) (vlen : ℕ) → vlen ≡ 32 * s.columns → Holds vlen s (bits_of (registers_of s))
+holds-own s vlen long r at x h = sym (bits-registers_of s r at x (rw long at h))
+
+pub bytes_law : BytesLaw
+bytes_law i b source body value s legal bounded real some whole results =
+    held_law i value s (replay (program i b body) s) (replay-columns (program i b body) s) legal.framed.vlen legal.framed.width some whole results
+    (frame_law i b source body (bits_of (registers_of s)) s legal bounded real (holds-own s i.vlen legal.framed.vlen))
 
 -- ---- elements of one bit
 

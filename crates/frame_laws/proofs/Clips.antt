@@ -60,9 +60,9 @@ register-elements w vlen columns pos lanes long =
 windows-clip : (i : Shape) (b : Bounds) (g : ℕ) (s : Slices) → clips (mask_window i b g) s ≡ false
 unfolding clips
 windows-clip i b g s = elim i.reads as (λ x. clips (cond x (Window mask_row i.width (first_of i g) b.from i.len true ∷ []) []) s ≡ false) [
-      | true ↦ refl
-      | false ↦ refl
-    ]
+  | true ↦ refl
+  | false ↦ refl
+]
 
 fill-keep : (i : Shape) (b : Bounds) (g : ℕ) → all_keep_control (fill i b g) ≡ true
 fill-keep i b g =
@@ -115,11 +115,11 @@ first-clip i b source columns body clipped v s legal bounded cols real tells dep
       one-clip i b n (body n) t,
       tells n le s2 vl2 splatted2 (windows-stand i b n t),
       any-same per (λ p. is_within b.from i.len i.masked (bit_in s2 0) (n * per + p) && clipped (bit_in s2) (n * per + p)) (λ p. clips_at i clipped v (n * per + p)) (λ p l.
-      let here = is_within b.from i.len i.masked (bit_in s2 0) (n * per + p) in
-      where_active here (clipped (bit_in s2) (n * per + p)) (clipped v (n * per + p)) (λ t. depends n (bit_in s2) v p le l (within-len b.from i.len i.masked (bit_in s2 0) (n * per + p) t) sources)
-      ∙ ap (λ (x : Bool). x && clipped v (n * per + p))
-      (within_same b.from i.len i.masked (bit_in s2 0) (v 0) (n * per + p) (λ m. let nz : 0 < i.vd = f.not_mask (rw m refl) in seen 0 (n * per + p) (omega arith) (omega arith) (inl nz))
-      ∙ sym (active-within i b (v 0) (n * per + p) bounded))),
+          let here = is_within b.from i.len i.masked (bit_in s2 0) (n * per + p) in
+          where_active here (clipped (bit_in s2) (n * per + p)) (clipped v (n * per + p)) (λ t. depends n (bit_in s2) v p le l (within-len b.from i.len i.masked (bit_in s2 0) (n * per + p) t) sources)
+          ∙ ap (λ (x : Bool). x && clipped v (n * per + p))
+          (within_same b.from i.len i.masked (bit_in s2 0) (v 0) (n * per + p) (λ m. let nz : 0 < i.vd = f.not_mask (rw m refl) in seen 0 (n * per + p) (omega arith) (omega arith) (inl nz))
+          ∙ sym (active-within i b (v 0) (n * per + p) bounded))),
     ) (sym (rw e (any_cat (n * per) per (clips_at i clipped v))))
   where
     whole-elements : (i : Shape) (columns : ℕ) → 0 < i.width → 32 / i.width * i.width ≡ 32 → i.vlen ≡ 32 * columns → i.vlen / i.width * i.width ≡ i.vlen

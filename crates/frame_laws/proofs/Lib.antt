@@ -3,6 +3,7 @@ pub mod Elements
 pub mod Ends
 pub mod Windows
 pub mod Registers
+pub mod Preparing
 pub mod Costs
 pub mod Bytes
 pub mod Clips

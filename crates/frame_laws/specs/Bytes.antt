@@ -8,8 +8,8 @@ use Rattle.micro_ir.specs.declared.op.MicroOp.{MicroOp}
 use Rattle.micro_ir.specs.Replay.{replay}
 use Rattle.frame_laws.specs.Shapes.{Shape, Bounds, Bounded}
 use Rattle.frame_laws.specs.Programs.{program}
-use Rattle.frame_laws.specs.Meaning.{outcome, place_in}
-use Rattle.frame_laws.specs.Laws.{Legal, AllRealised}
+use Rattle.frame_laws.specs.Meaning.{outcome, place_in, after}
+use Rattle.frame_laws.specs.Laws.{Legal, AllRealised, Holds}
 
 -- the bytes of a register
 abbrev pub size_of : Shape → ℕ
@@ -34,6 +34,13 @@ BytesLaw =
     → Legal i source s.columns → Bounded i b → AllRealised i b body
     → 0 < s.columns → 8 * (i.width / 8) ≡ i.width → AreResults i value (registers_of s)
     → registers_of (replay (program i b body) s) ≡ registers_after i value (registers_of s)
+
+-- Slices that hold the registers of an instruction's meaning, bit by bit, hold the lists of bytes of its meaning.
+abbrev pub HeldLaw : Type 0
+HeldLaw =
+    (i : Shape) (value : ℕ → ℕ) (s t : Slices)
+    → t.columns ≡ s.columns → i.vlen ≡ 32 * s.columns → 0 < i.width → 0 < s.columns → 8 * (i.width / 8) ≡ i.width → AreResults i value (registers_of s)
+    → Holds i.vlen t (after i (bits_of (registers_of s))) → registers_of t ≡ registers_after i value (registers_of s)
 
 -- The same where the destination is a mask: an element is one bit, and one register takes all.
 unfoldable pub bit_of_after : Shape → (value : ℕ → ℕ) → List (List ℕ) → ℕ → ℕ

@@ -5,6 +5,7 @@ pub mod Programs
 pub mod Meaning
 pub mod Realising
 pub mod Laws
+pub mod Preparing
 pub mod Costs
 pub mod Bytes
 pub mod Clips

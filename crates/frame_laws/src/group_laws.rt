@@ -1,7 +1,8 @@
 // The laws of the frame of the instructions that write a group of registers.
-ghost use Rattle.frame_laws.specs.Bytes.{BytesLaw, BitsLaw};
+ghost use Rattle.frame_laws.specs.Bytes.{BytesLaw, BitsLaw, HeldLaw};
 ghost use Rattle.frame_laws.specs.Clips.{ClipLaw};
 ghost use Rattle.frame_laws.specs.Laws.{FrameLaw, GroupLaw};
+ghost use Rattle.frame_laws.specs.Preparing.{PreparedLaw, AgreeingLaw};
 ghost use Rattle.frame_laws.specs.Shapes.{UsualBoundsLaw};
 ghost use Rattle.frame_laws.specs.Costs.{TallyLaw, EvenTallyLaw, LengthLaw, RangeLaw};
 
@@ -21,9 +22,26 @@ pub fn bytes_law()
     ensures law { BytesLaw }
 {}
 
-/// The same where the destination is a mask.
+/// Slices that hold the registers of an instruction's meaning hold the lists of bytes of its
+/// meaning.
+pub fn held_law()
+    ensures law { HeldLaw }
+{}
+
+/// The same as the law of bytes where the destination is a mask.
 pub fn bits_law()
     ensures law { BitsLaw }
+{}
+
+/// A list that makes a register's values in a work row realises the register, with a commit of the
+/// row after it.
+pub fn prepared_law()
+    ensures law { PreparedLaw }
+{}
+
+/// An element of a group of registers depends on those alone that it lies in.
+pub fn agreeing_law()
+    ensures law { AgreeingLaw }
 {}
 
 /// The bounds of most programs fit the places of the elements.

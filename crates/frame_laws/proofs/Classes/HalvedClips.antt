@@ -38,9 +38,9 @@ use Rattle.frame_laws.proofs.Classes.Halved.{Halfway, halfway, Sizes, sizes, sam
 
 narrowed-keep : (lists : Lists) (wide h : ℕ) → all_keep_control (narrowed_flags lists wide h) ≡ true
 narrowed-keep lists wide h = elim lists.clips as (λ x. all_keep_control (cond x (Narrow lists.flag truth_row wide h ∷ []) []) ≡ true) [
-      | true ↦ refl
-      | false ↦ refl
-    ]
+  | true ↦ refl
+  | false ↦ refl
+]
 
 pub halves-keep : (w : ℕ) (with : Pair) (lists : Lists) → ((q : ℕ) → all_keep_control (lists.body q) ≡ true) → (g count : ℕ) → all_keep_control (halves_list w with lists g count) ≡ true
 unfolding halves_list
