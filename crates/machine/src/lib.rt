@@ -6,6 +6,7 @@ mod accesses;
 mod answers;
 mod fetching;
 mod parts;
+mod planning;
 mod resuming;
 mod steps;
 mod vectors;

@@ -90,7 +90,7 @@ impl Machine {
     }
 
     // The scalar that an instruction takes.
-    fn scalar_of(&self, i: &VInstr) -> u32
+    pub(crate) fn scalar_of(&self, i: &VInstr) -> u32
         requires { i.now.vs1 < 32 }
         ensures { result ≡ scalar_operand i.now self.now.core.regs }
     {
