@@ -11,3 +11,4 @@ pub mod Configurations
 pub mod Accessed
 pub mod Following
 pub mod GoingOn
+pub mod Leaving
