@@ -79,8 +79,8 @@ module _ (old : ChainValue) (i : VInstr) (cfg : Cfg) (x : ℕ) (ops : List Micro
 
     pub number-is : low 32 (replay ops (record (slices_of old) { num = 0 })).num ≡ n
     unfolding slices_of
-    number-is = (leaves (number n) is).1.0
+    number-is = (leaves (number n) is).1
 
     pub number-clip : clips ops (record (slices_of old) { num = 0 }) ≡ false
     unfolding slices_of
-    number-clip = (leaves (number n) is).1.1
+    number-clip = (leaves (number n) is).2

@@ -8,6 +8,7 @@ use Rattle.rvv_decode.specs.declared.instruction.VInstr.{VInstr}
 use Rattle.rvv_decode.specs.declared.instruction.VOp.{VOp}
 use Rattle.rvv_decode.specs.declared.instruction.VOp.TheVariants.{Opi, Opm, Config, Memory}
 use Rattle.vtype_cfg.specs.declared.configuration.Cfg.{Cfg}
+use Rattle.vtype_cfg.specs.declared.configuration.Policy.TheVariants.{Keep}
 use Rattle.rvv_meaning.specs.Elementwise.{Elementwise}
 use Rattle.rvv_meaning.specs.Operations.{Operation, operation_for, on_elements}
 use Rattle.rvv_meaning.specs.Vectors.{is_computed, left_as, left_by, left_of}
@@ -60,13 +61,13 @@ module _ (i : VInstr) (c : Cfg) (x : ℕ) (v : List (List ℕ)) where
       → Computed i c x v
   computed-by (Some o) w is of kind some = record {
     left = elements (on_elements i c x o);
-    is = rw (is, of) refl;
+    is = rw is refl;
     kind = rw (operation-elements i.op o is) (on_elements i c x o, refl);
   }
   computed-by None (Some leaving) is of kind some = record {
-    left = leaving i _ x v;
+    left = leaving i (record c { policy = Keep }) x v;
     is = rw (is, of) refl;
-    kind = kind i _ x v;
+    kind = kind i (record c { policy = Keep }) x v;
   }
   computed-by None None is of kind some = absurd (false≢true some)
 

@@ -12,3 +12,5 @@ pub mod Accessed
 pub mod Following
 pub mod GoingOn
 pub mod Leaving
+pub mod Moving
+pub mod Programmed

@@ -2,7 +2,7 @@
 -- numbers.
 use Rattle.std.specs.Prelude.{ℕ, zero, suc, ◌+◌, ◌*◌, ◌/◌, ◌%◌, cond, not, ◌&&◌, Bool, true, false, List, [], Option, Some, None, if◌then◌else◌}
 use lib.Dec.{ltb}
-use Rattle.bit_laws.specs.Numbers.{bit_of}
+use Rattle.bit_laws.specs.Numbers.{bit_of, low}
 use Rattle.bit_rows.specs.Slices.{Slices, blank, placed}
 use Rattle.cam_chain.specs.ChainValue.{ChainValue, no_counts}
 use Rattle.cam_chain.specs.declared.counts.Counts.{Counts}
@@ -17,6 +17,7 @@ use Rattle.rvv_meaning.specs.declared.Meaning.TheVariants.{Scalar, Vector}
 use Rattle.rvv_meaning.specs.declared.Next.{Next}
 use Rattle.rvv_meaning.specs.declared.Next.TheVariants.{Stop, Perform}
 use Rattle.rvv_meaning.specs.Elementwise.{is_ones}
+use Rattle.rvv_meaning.specs.Scalar.Registers.{written}
 use Rattle.rvv_meaning.specs.States.{Core, State, cfg_at, next, step, is_running, vector_effect_at}
 use Rattle.rvv_meaning.specs.VectorAccesses.{reads_memory}
 use Rattle.rvv_meaning.specs.Vectors.{scalar_operand}
@@ -54,6 +55,10 @@ program_of (Perform (Vector i)) c = if is_engine i then Some (program_for i c) e
 -- the program of the instruction at pc
 unfoldable pub program_at : Core → Option (List MicroOp)
 program_at c = program_of (next c) c
+
+-- the scalar registers with the low half of a number in one of them, where one is made
+abbrev pub with_number : (makes : Bool) → (register num : ℕ) → List ℕ → List ℕ
+with_number makes register num regs = cond makes (written regs register (low 32 num)) regs
 
 -- the slices whose registers hold these bytes, where bit b of byte j of register r is the bit of subarray 8 (j mod 4) + b, row r,
 -- column j div 4; all else stays

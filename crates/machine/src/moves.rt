@@ -13,10 +13,11 @@ ghost use Rattle.rvv_meaning.specs.Vectors.{is_computed};
 ghost use Rattle.rvv_meaning.specs.Whole.{makes_number};
 ghost use Rattle.vec_exec.specs.Programs.{is_engine};
 ghost use Rattle.machine.specs.Fields.{VectorFits};
-ghost use Rattle.machine.specs.Moments.{with_registers};
+ghost use Rattle.machine.specs.Moments.{with_registers, with_number};
 
 use crate::parts::Machine;
 use register_elements::element;
+use rv32_core::Regs;
 use rvv_decode::{OpmOp, VInstr, VOp};
 use vec_exec::permute;
 
@@ -33,7 +34,7 @@ pub(crate) const fn leaves_number(op: VOp) -> bool
 }
 
 // The low half of a number.
-pub(crate) const fn low_word(number: u64) -> u32
+const fn low_word(number: u64) -> u32
     ensures { result ≡ low 32 number }
 {
     (number % (1 << SCALAR_BITS)) as u32
@@ -51,6 +52,16 @@ fn sign_extended(number: u32, bits: u8) -> u32
         number
     } else {
         (u64::from(number) + above) as u32
+    }
+}
+
+// The number that a program leaves in the control numbers into a scalar register, where the operation makes one.
+pub(crate) fn take_number(regs: &mut Regs, i: &VInstr, num: u64)
+    requires { i.now.vd < 32 }
+    ensures { regs.new ≡ with_number (makes_number i.now.op) i.now.vd num regs.old }
+{
+    if leaves_number(i.op) {
+        regs.set(i.vd, low_word(num));
     }
 }
 

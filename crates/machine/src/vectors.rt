@@ -14,7 +14,7 @@ ghost use Rattle.vec_exec.specs.Programs.{is_engine};
 ghost use Rattle.machine.specs.Moments.{program_for, slices_by, counts_by, control_by};
 ghost use Rattle.machine.specs.Carrying.{CarriesTaking};
 
-use crate::moves::{leaves_number, low_word};
+use crate::moves::{leaves_number, take_number};
 use crate::parts::{CLEARED, Machine, WORD_BYTES};
 use micro_ir::replay;
 use rvv_decode::{ConfigOp, Form, VInstr, VOp};
@@ -123,11 +123,9 @@ impl Machine {
         let first = self.buf.ops().len() as u32;
         self.control = CLEARED;
         replay(&mut self.chain, &mut self.control, &self.buf, first);
+        take_number(&mut self.regs, i, self.control.num);
         self.csrs.vstart = 0;
         self.csrs.vxsat |= self.control.clip;
-        if leaves_number(i.op) {
-            self.regs.set(i.vd, low_word(self.control.num));
-        }
         self.pc = self.pc.wrapping_add(WORD_BYTES);
         self.csrs.retired += 1;
     }
