@@ -52,7 +52,7 @@ byte-cut z w k inside =
     ap (λ (x : ℕ). bit_of x (8 * k + b)) (sym (number-bits w z)) ∙ bit-number w (bit_of z) (8 * k + b) (omega arith))
     ∙ sym (byte-bits z k)
 
-little-lt : (n : ℕ) (f : ℕ → ℕ) → ((k : ℕ) → f k < 2 ^ 8) → little n f < 2 ^ (8 * n)
+pub little-lt : (n : ℕ) (f : ℕ → ℕ) → ((k : ℕ) → f k < 2 ^ 8) → little n f < 2 ^ (8 * n)
 little-lt zero f small = omega arith
 little-lt (suc n) f small =
     let e : 8 * suc n ≡ 8 * n + 8 = omega arith in

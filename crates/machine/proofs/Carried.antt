@@ -1,5 +1,5 @@
 -- Each kind of instruction, carried out by its method, is a step.
-use Rattle.std.proofs.Common.{◌≡◌, ℕ, Bool, true, false, List, [], Option, Some, None, ◌⊎◌, inl, inr, ⊎_elim, refl, sym, ap, ◌∙◌, append-nil, arith}
+use Rattle.std.proofs.Common.{◌≡◌, ℕ, Bool, true, false, not, ◌&&◌, List, [], Option, Some, None, ◌⊎◌, inl, inr, ⊎_elim, refl, sym, ap, ◌∙◌, append-nil, arith}
 use Rattle.std.specs.Prelude.{if◌then◌else◌, nat_eq}
 use Rattle.std.specs.Io.KnownBytes.{Appends, Consumes}
 use Rattle.std.proofs.lemmas.Bool.{false≢true}
@@ -9,10 +9,6 @@ use Rattle.micro_ir.specs.declared.op.MicroOp.{MicroOp}
 use Rattle.rv32_decode.specs.declared.instruction.Instr.{Instr}
 use Rattle.rvv_decode.specs.declared.instruction.ConfigOp.{ConfigOp}
 use Rattle.rvv_decode.specs.declared.instruction.Form.{Form}
-use Rattle.rvv_decode.specs.declared.instruction.OpiOp.{OpiOp}
-use Rattle.rvv_decode.specs.declared.instruction.OpiOp.TheVariants.{Vrgather, Vrgatherei16}
-use Rattle.rvv_decode.specs.declared.instruction.OpmOp.{OpmOp}
-use Rattle.rvv_decode.specs.declared.instruction.OpmOp.TheVariants.{VmvXS, Vcompress, Viota}
 use Rattle.rvv_decode.specs.declared.instruction.VInstr.{VInstr}
 use Rattle.rvv_decode.specs.declared.instruction.VOp.{VOp}
 use Rattle.rvv_decode.specs.declared.instruction.VOp.TheVariants.{Opi, Opm, Config, Memory}
@@ -26,14 +22,15 @@ use Rattle.rvv_meaning.specs.Calls.{first, named_call, asked_by, put_by}
 use Rattle.rvv_meaning.specs.States.{Core, next, core_after, call_at, call_by, asked, puts, effect_at, with_effect, after_flow, executed_vector, called, reg, vector_effect_at}
 use Rattle.rvv_meaning.specs.Operations.{operation_for}
 use Rattle.rvv_meaning.specs.VectorAccesses.{reads_memory, writes_memory}
-use Rattle.rvv_meaning.specs.Vectors.{is_on_elements}
+use Rattle.rvv_meaning.specs.Vectors.{is_computed}
+use Rattle.rvv_meaning.specs.Whole.{whole_for, makes_number}
 use Rattle.rvv_meaning.proofs.Calling.{Rests, executed-rests}
 use Rattle.guest_env.specs.Inputs.{Takes}
 use Rattle.guest_env.specs.Outputs.{bytes_out, bytes_err, IsWritten}
 use Rattle.guest_env.proofs.Writing.{written-none}
 use Rattle.cape_io.specs.declared.devices.Sink.{Ghosts}
-use Rattle.vec_exec.specs.Programs.{is_engine, is_engine_op, is_opi_engine, is_opm_engine}
-use Rattle.machine.specs.Moments.{Held, program_for, program_at, loaded_at, with_registers, slices_by, counts_by, control_by}
+use Rattle.vec_exec.specs.Programs.{is_engine, is_engine_op}
+use Rattle.machine.specs.Moments.{Held, program_for, program_at, moves_by, moves_elements, loaded_at, with_registers, slices_by, counts_by, control_by}
 use Rattle.machine.specs.Views.{CallsAt, gains_out, gains_err}
 use Rattle.machine.specs.Carrying.{CarriesTaking, CallsTaking, call_out, call_err}
 
@@ -103,39 +100,6 @@ call_puts i c there is = rw (there, is) refl
 pub emptied : (old new : Held) (core : Core) → old.last ≡ [] → new ≡ record old { core = core } → new ≡ record old { core = core; last = [] }
 emptied old new core none is = is ∙ ap (λ (ops : List MicroOp). record old { core = core; last = ops }) none
 
-opi-runs : (op : OpiOp) (form : Form) → is_on_elements (Opi op) ≡ true → is_opi_engine op form ≡ true
-unfolding operation_for
-opi-runs Vrgather form on = cc
-opi-runs Vrgatherei16 form on = cc
-opi-runs _ form on = refl
-
-opm-runs : (op : OpmOp) → is_on_elements (Opm op) ≡ true → is_opm_engine op ≡ true
-unfolding operation_for
-opm-runs VmvXS on = cc
-opm-runs Vcompress on = cc
-opm-runs Viota on = cc
-opm-runs _ on = refl
-
--- an instruction on elements that is built has a program
-engine-runs : (op : VOp) (form : Form) → is_on_elements op ≡ true → is_engine_op op form ≡ true
-unfolding operation_for
-engine-runs (Opi op) form on = opi-runs op form on
-engine-runs (Opm op) form on = opm-runs op on
-engine-runs (Config op) form on = cc
-engine-runs (Memory op) form on = cc
-
--- it is no load
-still_memory : (op : VOp) → is_on_elements op ≡ true → reads_memory op ≡ false
-unfolding operation_for
-still_memory (Opi op) on = refl
-still_memory (Opm op) on = refl
-still_memory (Config op) on = refl
-still_memory (Memory op) on = cc
-
-runs-program : (i : VInstr) → is_on_elements i.op ≡ true → is_engine i ≡ true
-unfolding is_engine
-runs-program i on = engine-runs i.op i.form on
-
 -- a load or a store has no program, and a store loads nothing
 abbrev is_memory : VOp → Bool
 is_memory (Memory op) = true
@@ -153,11 +117,47 @@ no-program (Opi op) form memory = absurd (false≢true memory)
 no-program (Opm op) form memory = absurd (false≢true memory)
 no-program (Config op) form memory = refl
 
-no-load : (op : VOp) → writes_memory op ≡ true → reads_memory op ≡ false
-no-load (Memory op) writes = rw writes refl
-no-load (Opi op) writes = refl
-no-load (Opm op) writes = refl
-no-load (Config op) writes = refl
+-- ---- what writes registers without a program
+
+-- an instruction with a program does not
+program-moves : (op : VOp) → is_computed op ≡ true → moves_by op true ≡ false
+unfolding operation_for whole_for
+program-moves (Opi op) computed = refl
+program-moves (Opm op) computed = refl
+program-moves (Config op) computed = refl
+program-moves (Memory op) computed = absurd (false≢true computed)
+
+-- a load does, and a store does not
+load-moves : (op : VOp) (engine : Bool) → reads_memory op ≡ true → moves_by op engine ≡ true
+load-moves (Memory op) engine reads = reads
+load-moves (Opi op) engine reads = absurd (false≢true reads)
+load-moves (Opm op) engine reads = absurd (false≢true reads)
+load-moves (Config op) engine reads = absurd (false≢true reads)
+
+store-moves : (op : VOp) (engine : Bool) → writes_memory op ≡ true → moves_by op engine ≡ false
+store-moves (Memory op) engine writes = rw writes refl
+store-moves (Opi op) engine writes = absurd (false≢true writes)
+store-moves (Opm op) engine writes = absurd (false≢true writes)
+store-moves (Config op) engine writes = refl
+
+-- nor does an instruction that makes a number; what else is computed does
+number-moves : (op : VOp) (engine : Bool) → is_computed op ≡ true → makes_number op ≡ true → moves_by op engine ≡ false
+unfolding operation_for whole_for
+number-moves (Opi op) engine computed makes = absurd (false≢true makes)
+number-moves (Opm op) engine computed makes = rw makes (either engine)
+  where
+    either : (b : Bool) → (not b && false) ≡ false
+    either true = refl
+    either false = refl
+number-moves (Config op) engine computed makes = refl
+number-moves (Memory op) engine computed makes = absurd (false≢true computed)
+
+else-moves : (op : VOp) → is_computed op ≡ true → makes_number op ≡ false → moves_by op false ≡ true
+unfolding operation_for whole_for
+else-moves (Opi op) computed makes = refl
+else-moves (Opm op) computed makes = rw makes refl
+else-moves (Config op) computed makes = absurd (false≢true computed)
+else-moves (Memory op) computed makes = absurd (false≢true computed)
 
 -- an instruction that is no call, by what comes at pc
 pub stop-quiet : (mode : Mode) (c : Core) → next c ≡ Stop mode → call_at c ≡ None
@@ -224,8 +224,8 @@ module _ (old new : Held) (v : DeviceViews) where
         quiet = refl;
       }
 
-  -- an instruction on elements
-  pub carries-program : (i : VInstr) → next old.core ≡ Perform (Vector i) → is_on_elements i.op ≡ true
+  -- an instruction with a program
+  pub carries-program : (i : VInstr) → next old.core ≡ Perform (Vector i) → is_computed i.op ≡ true → is_engine i ≡ true
       → new.core ≡ executed_vector i old.core
       → slices_of new.chain ≡ slices_by (Some (program_for i old.core)) (slices_of old.chain)
       → new.last ≡ program_for i old.core
@@ -234,11 +234,10 @@ module _ (old new : Held) (v : DeviceViews) where
       → new.live ≡ old.live
       → CarriesTaking old new [] same
   unfolding core_after program_at loaded_at
-  carries-program i there on core slices last counts control live =
-      let runs = runs-program i on in
+  carries-program i there computed runs core slices last counts control live =
       record {
         core = core ∙ rw there refl;
-        slices = slices ∙ rw (there, runs, still_memory i.op on) refl;
+        slices = slices ∙ rw (there, runs, program-moves i.op computed) refl;
         last = last ∙ rw (there, runs) refl;
         counts = counts ∙ rw (there, runs) refl;
         control = control ∙ rw (there, runs) refl;
@@ -247,19 +246,18 @@ module _ (old new : Held) (v : DeviceViews) where
         quiet = refl;
       }
 
-  -- a load
-  pub carries-load : (i : VInstr) → next old.core ≡ Perform (Vector i) → reads_memory i.op ≡ true
+  -- an instruction that writes vector registers without a program
+  pub carries-moved : (i : VInstr) → next old.core ≡ Perform (Vector i) → is_engine i ≡ false → moves_elements i ≡ true
       → new.core ≡ executed_vector i old.core
       → slices_of new.chain ≡ with_registers ((vector_effect_at i old.core).vectors (λ element. is_ones old.core.policy)) (slices_of old.chain)
       → new ≡ record old { core = new.core; chain = new.chain; last = [] }
       → new.chain.counts ≡ old.chain.counts
       → CarriesTaking old new [] same
-  unfolding core_after program_at loaded_at is_engine
-  carries-load i there loads core slices rest counts =
-      let quiet = no-program i.op i.form (moves-memory i.op (inl loads)) in
+  unfolding core_after program_at loaded_at
+  carries-moved i there quiet moves core slices rest counts =
       record {
         core = core ∙ rw there refl;
-        slices = slices ∙ rw (there, quiet, loads) refl;
+        slices = slices ∙ rw (there, moves, quiet) refl;
         last = ap (λ (h : Held). h.last) rest ∙ rw (there, quiet) refl;
         counts = counts ∙ rw (there, quiet) refl;
         control = ap (λ (h : Held). h.control) rest ∙ rw (there, quiet) refl;
@@ -268,16 +266,15 @@ module _ (old new : Held) (v : DeviceViews) where
         quiet = refl;
       }
 
-  -- a store
-  pub carries-store : (i : VInstr) → next old.core ≡ Perform (Vector i) → writes_memory i.op ≡ true
+  -- and one that writes none, and has none
+  pub carries-else : (i : VInstr) → next old.core ≡ Perform (Vector i) → is_engine i ≡ false → moves_elements i ≡ false
       → new ≡ record old { core = executed_vector i old.core; last = [] }
       → CarriesTaking old new [] same
-  unfolding core_after program_at loaded_at is_engine
-  carries-store i there stores is =
-      let quiet = no-program i.op i.form (moves-memory i.op (inr stores)) in
+  unfolding core_after program_at loaded_at
+  carries-else i there quiet stays is =
       rw is record {
         core = rw there refl;
-        slices = rw (there, quiet, no-load i.op stores) refl;
+        slices = rw (there, stays, quiet) refl;
         last = rw (there, quiet) refl;
         counts = rw (there, quiet) refl;
         control = rw (there, quiet) refl;
@@ -285,6 +282,37 @@ module _ (old new : Held) (v : DeviceViews) where
         took = quiet_takes old.core v.input.left (vector-quiet i old.core there);
         quiet = refl;
       }
+
+  -- a load, and a store
+  pub carries-load : (i : VInstr) → next old.core ≡ Perform (Vector i) → reads_memory i.op ≡ true
+      → new.core ≡ executed_vector i old.core
+      → slices_of new.chain ≡ with_registers ((vector_effect_at i old.core).vectors (λ element. is_ones old.core.policy)) (slices_of old.chain)
+      → new ≡ record old { core = new.core; chain = new.chain; last = [] }
+      → new.chain.counts ≡ old.chain.counts
+      → CarriesTaking old new [] same
+  unfolding is_engine
+  carries-load i there loads = carries-moved i there (no-program i.op i.form (moves-memory i.op (inl loads))) (load-moves i.op _ loads)
+
+  pub carries-store : (i : VInstr) → next old.core ≡ Perform (Vector i) → writes_memory i.op ≡ true
+      → new ≡ record old { core = executed_vector i old.core; last = [] }
+      → CarriesTaking old new [] same
+  unfolding is_engine
+  carries-store i there stores = carries-else i there (no-program i.op i.form (moves-memory i.op (inr stores))) (store-moves i.op _ stores)
+
+  -- the number of an element into a scalar register
+  pub carries-number : (i : VInstr) → next old.core ≡ Perform (Vector i) → is_computed i.op ≡ true → is_engine i ≡ false → makes_number i.op ≡ true
+      → new ≡ record old { core = executed_vector i old.core; last = [] }
+      → CarriesTaking old new [] same
+  carries-number i there computed quiet makes = carries-else i there quiet (number-moves i.op _ computed makes)
+
+  -- elements that are moved without a program
+  pub carries-permuted : (i : VInstr) → next old.core ≡ Perform (Vector i) → is_computed i.op ≡ true → is_engine i ≡ false → makes_number i.op ≡ false
+      → new.core ≡ executed_vector i old.core
+      → slices_of new.chain ≡ with_registers ((vector_effect_at i old.core).vectors (λ element. is_ones old.core.policy)) (slices_of old.chain)
+      → new ≡ record old { core = new.core; chain = new.chain; last = [] }
+      → new.chain.counts ≡ old.chain.counts
+      → CarriesTaking old new [] same
+  carries-permuted i there computed quiet makes = carries-moved i there quiet (ap (moves_by i.op) quiet ∙ else-moves i.op computed makes)
 
 module _ (i : Instr) (c : Core) (there : next c ≡ Perform (Scalar i)) (is : (effect_at i c).flow ≡ Calls) where
   -- the bytes that the sinks gain of a call

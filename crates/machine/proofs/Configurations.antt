@@ -12,9 +12,10 @@ use Rattle.rvv_decode.specs.declared.instruction.VOp.{VOp}
 use Rattle.rvv_decode.specs.declared.instruction.VOp.TheVariants.{Opi, Opm, Config, Memory as Moves}
 use Rattle.vtype_cfg.specs.declared.configuration.Cfg.{Cfg}
 use Rattle.vtype_cfg.specs.Settings.{is_legal_vlen, is_vill_or_supported, is_valid, vlmax}
-use Rattle.rvv_meaning.specs.Operations.{Operation, operation_for, on_elements}
-use Rattle.rvv_meaning.specs.States.{Core, cfg_at, after_flow, with_vector_effect, executed_vector}
-use Rattle.rvv_meaning.specs.Vectors.{VectorEffect, elements, scalar_operand, is_built, is_on_elements, configuration_effect, elements_effect, access_outcome, flow_after, access_effect, left_effect, no_effect, effect_by, vector_effect}
+use Rattle.rvv_meaning.specs.Operations.{operation_for}
+use Rattle.rvv_meaning.specs.States.{Core, cfg_at, after_flow, with_vector_effect, executed_vector, vector_effect_at}
+use Rattle.rvv_meaning.specs.Whole.{Left, elements, number, whole_for}
+use Rattle.rvv_meaning.specs.Vectors.{VectorEffect, left_by, left_of, scalar_operand, is_built, is_computed, configuration_effect, elements_effect, number_effect, access_outcome, flow_after, access_effect, left_effect, no_effect, effect_by, vector_effect}
 
 pub valid-cfg : (c : Cfg) → IsTrue (is_legal_vlen c.vlen) → IsTrue (is_vill_or_supported c.vtype) → c.vl ≤ vlmax c.vtype c.vlen → c.vstart < c.vlen → c.vxrm ≤ 3 → IsTrue (is_valid c)
 unfolding is_valid
@@ -24,14 +25,14 @@ valid-cfg c legal setting most starts rounding =
     let mode : nat_le c.vxrm 3 ≡ true = grind (arith, nat_tests) in
     rw (legal, setting, few, inside, mode) refl
 
--- of what is built all but configurations, loads and stores is on elements
-pub elements-built : (op : VOp) → is_built op ≡ true → ((o : OpiOp) × (op ≡ Opi o)) ⊎ ((o : OpmOp) × (op ≡ Opm o)) → is_on_elements op ≡ true
-elements-built (Opi o) built which = built
-elements-built (Opm o) built which = built
-elements-built (Config o) built (inl (x, is)) = cc
-elements-built (Config o) built (inr (x, is)) = cc
-elements-built (Moves o) built (inl (x, is)) = cc
-elements-built (Moves o) built (inr (x, is)) = cc
+-- of what is built all but configurations, loads and stores computes from the registers
+pub computed-built : (op : VOp) → is_built op ≡ true → ((o : OpiOp) × (op ≡ Opi o)) ⊎ ((o : OpmOp) × (op ≡ Opm o)) → is_computed op ≡ true
+computed-built (Opi o) built which = built
+computed-built (Opm o) built which = built
+computed-built (Config o) built (inl (x, is)) = cc
+computed-built (Config o) built (inr (x, is)) = cc
+computed-built (Moves o) built (inl (x, is)) = cc
+computed-built (Moves o) built (inr (x, is)) = cc
 
 -- ---- what a vector instruction leaves
 
@@ -47,10 +48,11 @@ module _ (i : VInstr) (c : Core) where
   once : c.csrs.retired + 1 ≤ c.csrs.retired + 1
   once = omega arith
 
-  retires-for : (o : Option Operation) → Retires (option_map_or (left_effect i c.pc c.regs c.csrs c.mem c.vectors c.policy) (option_map (λ x. elements (on_elements i (cfg_at c) (scalar_operand i c.regs) x)) o) (no_effect i c.pc c.regs c.csrs c.mem c.vectors c.policy))
-  unfolding elements_effect
+  retires-for : (l : Option Left) → Retires (option_map_or (left_effect i c.pc c.regs c.csrs c.mem c.vectors c.policy) l (no_effect i c.pc c.regs c.csrs c.mem c.vectors c.policy))
+  unfolding elements_effect number_effect
   retires-for None = (once, refl)
-  retires-for (Some o) = (once, refl)
+  retires-for (Some (elements e)) = (once, refl)
+  retires-for (Some (number n)) = (once, refl)
 
   retires-access : (op : MemoryOp) (o : Option (ℕ × ℕ))
       → ((after_flow (flow_after i c.pc c.regs c.csrs c.mem c.vectors c.policy op o) (with_vector_effect (access_effect i c.pc c.regs c.csrs c.mem c.vectors c.policy op) c) []).csrs.retired ≤ c.csrs.retired + 1)
@@ -62,8 +64,8 @@ module _ (i : VInstr) (c : Core) where
   retires-by : (op : VOp) → Retires (effect_by i c.pc c.regs c.csrs c.mem c.vectors c.policy op)
   unfolding configuration_effect access_effect
   retires-by (Config op) = (once, refl)
-  retires-by (Opi op) = retires-for (operation_for (Opi op))
-  retires-by (Opm op) = retires-for (operation_for (Opm op))
+  retires-by (Opi op) = retires-for (left_by (Opi op) i (cfg_at c) (scalar_operand i c.regs) c.vectors)
+  retires-by (Opm op) = retires-for (left_by (Opm op) i (cfg_at c) (scalar_operand i c.regs) c.vectors)
   retires-by (Moves op) = retires-access op (access_outcome i c.pc c.regs c.csrs c.mem c.vectors c.policy).fault
 
   pub vector-retires : (executed_vector i c).csrs.retired ≤ c.csrs.retired + 1
@@ -79,28 +81,21 @@ module _ (i : VInstr) (c : Core) where
   unfolding vector_effect
   configured-is op named = rw named refl
 
-  -- an instruction on elements
-  elements-by : (o : Operation) (op : VOp) → operation_for op ≡ Some o
-      → effect_by i c.pc c.regs c.csrs c.mem c.vectors c.policy op ≡ elements_effect i c.pc c.regs c.csrs c.mem c.vectors c.policy (on_elements i (cfg_at c) (scalar_operand i c.regs) o)
-  unfolding operation_for
-  elements-by o (Config op) is = cc
-  elements-by o (Opi op) is = rw is refl
-  elements-by o (Opm op) is = cc
-  elements-by o (Moves op) is = cc
+  -- an instruction that leaves this of the registers
+  left-by : (l : Left) (op : VOp) → left_by op i (cfg_at c) (scalar_operand i c.regs) c.vectors ≡ Some l
+      → effect_by i c.pc c.regs c.csrs c.mem c.vectors c.policy op ≡ left_effect i c.pc c.regs c.csrs c.mem c.vectors c.policy l
+  unfolding operation_for whole_for
+  left-by l (Config op) is = cc
+  left-by l (Opi op) is = rw is refl
+  left-by l (Opm op) is = rw is refl
+  left-by l (Moves op) is = cc
 
-  pub on-elements-is : (o : Operation) → operation_for i.op ≡ Some o
-      → executed_vector i c ≡ left_with (elements_effect i c.pc c.regs c.csrs c.mem c.vectors c.policy (on_elements i (cfg_at c) (scalar_operand i c.regs) o))
+  pub left-is : (l : Left) → left_of i (cfg_at c) (scalar_operand i c.regs) c.vectors ≡ Some l
+      → executed_vector i c ≡ left_with (left_effect i c.pc c.regs c.csrs c.mem c.vectors c.policy l)
   unfolding vector_effect
-  on-elements-is o is = ap left_with (elements-by o i.op is)
+  left-is l is = ap left_with (left-by l i.op is)
 
--- the operation of an instruction on elements
-pub record OperationOf (op : VOp) : Type 0 where
-  pub operation : Operation
-  pub is : operation_for op ≡ Some operation
-
-pub operation-of : (op : VOp) → is_on_elements op ≡ true → OperationOf op
-operation-of op on = from (operation_for op) refl on
-  where
-    from : (o : Option Operation) → operation_for op ≡ o → is_some o ≡ true → OperationOf op
-    from (Some o) is on = record { operation = o; is = is }
-    from None is on = cc
+  pub effect-is : (l : Left) → left_of i (cfg_at c) (scalar_operand i c.regs) c.vectors ≡ Some l
+      → vector_effect_at i c ≡ left_effect i c.pc c.regs c.csrs c.mem c.vectors c.policy l
+  unfolding vector_effect
+  effect-is l is = left-by l i.op is

@@ -12,3 +12,6 @@ pub mod Accessed
 pub mod Following
 pub mod GoingOn
 pub mod NextPrograms
+pub mod Leaving
+pub mod Moving
+pub mod Programmed

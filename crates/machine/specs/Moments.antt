@@ -1,8 +1,8 @@
 -- Moments of a machine: its state with the state of its slices, the program of its last step, its counts and its control
 -- numbers.
-use Rattle.std.specs.Prelude.{ℕ, zero, suc, ◌+◌, ◌*◌, ◌/◌, ◌%◌, cond, ◌&&◌, Bool, true, false, List, [], Option, Some, None, if◌then◌else◌}
+use Rattle.std.specs.Prelude.{ℕ, zero, suc, ◌+◌, ◌*◌, ◌/◌, ◌%◌, cond, not, ◌&&◌, Bool, true, false, List, [], Option, Some, None, if◌then◌else◌}
 use lib.Dec.{ltb}
-use Rattle.bit_laws.specs.Numbers.{bit_of}
+use Rattle.bit_laws.specs.Numbers.{bit_of, low}
 use Rattle.bit_rows.specs.Slices.{Slices, blank, placed}
 use Rattle.cam_chain.specs.ChainValue.{ChainValue, no_counts}
 use Rattle.cam_chain.specs.declared.counts.Counts.{Counts}
@@ -11,13 +11,17 @@ use Rattle.micro_ir.specs.declared.control.Control.{Control}
 use Rattle.micro_ir.specs.declared.op.MicroOp.{MicroOp}
 use Rattle.micro_ir.specs.Replay.{replay, clips, tally, counts_and}
 use Rattle.rvv_decode.specs.declared.instruction.VInstr.{VInstr}
+use Rattle.rvv_decode.specs.declared.instruction.VOp.{VOp}
+use Rattle.rvv_decode.specs.declared.instruction.VOp.TheVariants.{Config, Memory}
 use Rattle.rvv_meaning.specs.declared.Meaning.TheVariants.{Scalar, Vector}
 use Rattle.rvv_meaning.specs.declared.Next.{Next}
 use Rattle.rvv_meaning.specs.declared.Next.TheVariants.{Stop, Perform}
 use Rattle.rvv_meaning.specs.Elementwise.{is_ones}
+use Rattle.rvv_meaning.specs.Scalar.Registers.{written}
 use Rattle.rvv_meaning.specs.States.{Core, State, cfg_at, next, step, is_running, vector_effect_at}
 use Rattle.rvv_meaning.specs.VectorAccesses.{reads_memory}
 use Rattle.rvv_meaning.specs.Vectors.{scalar_operand}
+use Rattle.rvv_meaning.specs.Whole.{makes_number}
 use Rattle.vec_exec.specs.Programs.{prog, is_engine}
 
 -- What contracts see of a machine: what it holds of the guest, the chain whose rows 0 to 31 are the vector registers,
@@ -52,6 +56,10 @@ program_of (Perform (Vector i)) c = if is_engine i then Some (program_for i c) e
 unfoldable pub program_at : Core → Option (List MicroOp)
 program_at c = program_of (next c) c
 
+-- the scalar registers with the low half of a number in one of them, where one is made
+abbrev pub with_number : (makes : Bool) → (register num : ℕ) → List ℕ → List ℕ
+with_number makes register num regs = cond makes (written regs register (low 32 num)) regs
+
 -- the slices whose registers hold these bytes, where bit b of byte j of register r is the bit of subarray 8 (j mod 4) + b, row r,
 -- column j div 4; all else stays
 unfoldable pub with_registers : List (List ℕ) → Slices → Slices
@@ -59,22 +67,32 @@ with_registers v s = record s {
   bit = λ sub row col. cond (placed s.columns sub col && ltb row 32) (bit_of (byte_at v row (4 * col + sub / 8)) (sub % 8)) (s.bit sub row col);
 }
 
--- the registers that a load leaves
+-- Whether an operation writes vector registers without a program: a load does, and what moves elements in another way than
+-- by a program.
+abbrev pub moves_by : VOp → (engine : Bool) → Bool
+moves_by (Memory op) engine = reads_memory (Memory op)
+moves_by (Config op) engine = false
+moves_by op engine = not engine && not (makes_number op)
+
+abbrev pub moves_elements : VInstr → Bool
+moves_elements i = moves_by i.op (is_engine i)
+
+-- the registers that such an instruction leaves
 abbrev pub loaded_by : Bool → VInstr → Core → Option (List (List ℕ))
 loaded_by true i c = Some ((vector_effect_at i c).vectors (λ element. is_ones c.policy))
 loaded_by false i c = None
 
--- the registers that an instruction leaves, where it is a load
+-- the registers that an instruction leaves, where it writes them without a program
 abbrev pub loaded_of : Next → Core → Option (List (List ℕ))
 loaded_of (Stop mode) c = None
 loaded_of (Perform (Scalar i)) c = None
-loaded_of (Perform (Vector i)) c = loaded_by (reads_memory i.op) i c
+loaded_of (Perform (Vector i)) c = loaded_by (moves_elements i) i c
 
--- the registers that the instruction at pc leaves, where it is a load
+-- the registers that the instruction at pc leaves, where it writes them without a program
 unfoldable pub loaded_at : Core → Option (List (List ℕ))
 loaded_at c = loaded_of (next c) c
 
--- The slices after a load: their registers are those that it leaves, and all else stays.
+-- The slices after such an instruction: their registers are those that it leaves, and all else stays.
 abbrev pub with_loaded : Option (List (List ℕ)) → Slices → Slices
 with_loaded None s = s
 with_loaded (Some v) s = with_registers v s

@@ -5,6 +5,7 @@
 mod accesses;
 mod answers;
 mod fetching;
+mod moves;
 mod parts;
 mod planning;
 mod resuming;

@@ -8,15 +8,17 @@ ghost use Rattle.rvv_decode.specs.Ranges.{IsInRange};
 ghost use Rattle.vtype_cfg.specs.Settings.{is_valid};
 ghost use Rattle.rvv_decode.specs.declared.instruction.VOp.TheVariants.{Config};
 ghost use Rattle.rvv_meaning.specs.States.{next, cfg_at, executed_vector};
-ghost use Rattle.rvv_meaning.specs.Vectors.{length_asked, length_of_register, setting_asked, scalar_operand, is_on_elements};
+ghost use Rattle.rvv_meaning.specs.Vectors.{length_asked, length_of_register, setting_asked, scalar_operand, is_computed};
 ghost use Rattle.machine.specs.Fields.{VectorFits};
+ghost use Rattle.vec_exec.specs.Programs.{is_engine};
 ghost use Rattle.machine.specs.Moments.{program_for, slices_by, counts_by, control_by};
 ghost use Rattle.machine.specs.Carrying.{CarriesTaking};
 
+use crate::moves::{leaves_number, take_number};
 use crate::parts::{CLEARED, Machine, WORD_BYTES};
 use micro_ir::replay;
 use rvv_decode::{ConfigOp, Form, VInstr, VOp};
-use vec_exec::plan;
+use vec_exec::{engine, plan};
 use vtype_cfg::{Avl, Cfg, Vtype, set_vl};
 
 impl Machine {
@@ -100,10 +102,12 @@ impl Machine {
         }
     }
 
-    // An instruction on elements, which is planned into the empty buffer and replayed on the slices.
+    // An instruction with a program, which is planned into the empty buffer and replayed on the slices. Where it makes a number
+    // for a scalar register, that is left in the control numbers.
     fn run_program(&mut self, i: &VInstr)
         requires fits { VectorFits self.old.core i.now }
-        requires elements { is_on_elements i.now.op ≡ true }
+        requires computed { is_computed i.now.op ≡ true }
+        requires engine { is_engine i.now ≡ true }
         requires empty { self.old.last ≡ [] }
         requires count { self.old.core.csrs.retired < 2 ^ 63 }
         ensures core { self.new.core ≡ executed_vector i.now self.old.core }
@@ -119,10 +123,31 @@ impl Machine {
         let first = self.buf.ops().len() as u32;
         self.control = CLEARED;
         replay(&mut self.chain, &mut self.control, &self.buf, first);
+        take_number(&mut self.regs, i, self.control.num);
         self.csrs.vstart = 0;
         self.csrs.vxsat |= self.control.clip;
         self.pc = self.pc.wrapping_add(WORD_BYTES);
         self.csrs.retired += 1;
+    }
+
+    // Carries out an instruction that computes from the vector registers.
+    fn compute(&mut self, i: &VInstr)
+        requires fits { VectorFits self.old.core i.now }
+        requires computed { is_computed i.now.op ≡ true }
+        requires there { next self.old.core ≡ Perform (Vector i.now) }
+        requires empty { self.old.last ≡ [] }
+        requires count { self.old.core.csrs.retired < 2 ^ 63 }
+        ensures carries { (v : DeviceViews) → CarriesTaking self.old self.new [] (record { old = v; new = v }) }
+        ensures count { self.new.core.csrs.retired ≤ self.old.core.csrs.retired + 1 }
+        ensures length { self.new.core.csrs.vlen ≡ self.old.core.csrs.vlen }
+    {
+        if engine(i) {
+            self.run_program(i);
+        } else if leaves_number(i.op) {
+            self.move_out(i);
+        } else {
+            self.move_elements(i);
+        }
     }
 
     // Carries out the vector instruction at pc.
@@ -138,7 +163,7 @@ impl Machine {
         match i.op {
             VOp::Config(op) => self.configure(op, i),
             VOp::Memory(op) => self.access(op, i),
-            VOp::Opi(_) | VOp::Opm(_) => self.run_program(i),
+            VOp::Opi(_) | VOp::Opm(_) => self.compute(i),
         }
     }
 }

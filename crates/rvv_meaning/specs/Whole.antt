@@ -13,7 +13,7 @@ use Rattle.rvv_decode.specs.declared.instruction.Form.{Form}
 use Rattle.rvv_decode.specs.declared.instruction.Form.TheVariants.{V, X, I}
 use Rattle.rvv_decode.specs.declared.instruction.OpiOp.{OpiOp}
 use Rattle.rvv_decode.specs.declared.instruction.OpmOp.{OpmOp}
-use Rattle.rvv_decode.specs.declared.instruction.OpmOp.TheVariants.{VmvXS}
+use Rattle.rvv_decode.specs.declared.instruction.OpmOp.TheVariants.{VmvXS, Vcpop, Vfirst}
 use Rattle.vtype_cfg.specs.declared.configuration.Cfg.{Cfg}
 use Rattle.vtype_cfg.specs.Classes.{group as group_place, count_at}
 use Rattle.vtype_cfg.specs.Settings.{vlmax}
@@ -239,6 +239,13 @@ module _ (i : VInstr) (c : Cfg) (x : ℕ) (v : List (List ℕ)) where
 -- what an instruction leaves of its configuration, its scalar and the registers that it finds
 abbrev pub Leaving : Type 0
 Leaving = VInstr → Cfg → (x : ℕ) → (v : List (List ℕ)) → Left
+
+-- whether an operation leaves a number in a scalar register
+abbrev pub makes_number : VOp → Bool
+makes_number (Opm Vcpop) = true
+makes_number (Opm Vfirst) = true
+makes_number (Opm VmvXS) = true
+makes_number op = false
 
 -- the instructions of this kind that are built
 unfoldable pub whole_for : VOp → Option Leaving

@@ -1,3 +1,4 @@
 -- The programs of vector instructions.
 pub mod Recipes
 pub mod Programs
+pub mod Moves

@@ -3,9 +3,11 @@
 
 mod halves;
 mod laying;
+mod moving;
 mod operands;
 mod planning;
 mod recipes;
 mod registers;
 
+pub use moving::permute;
 pub use planning::{built, engine, plan};

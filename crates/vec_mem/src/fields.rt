@@ -11,11 +11,11 @@ ghost use Rattle.vec_mem.specs.Views.{vectors_of};
 ghost use Rattle.cam_chain.specs.Views.{KeepsRest};
 ghost use Rattle.element_ops.specs.Elements.{IsSize};
 
-use crate::elements::{element, mask_bit, set_element};
 use crate::places::{address, field_size, is_unmasked, per_field};
 use bitflags::Flags;
 use cam_chain::Chain;
 use guest_mem::{Mem, Perms};
+use register_elements::{element, mask_bit, set_element};
 use rvv_meaning::Access;
 use vtype_cfg::{Cfg, Policy};
 

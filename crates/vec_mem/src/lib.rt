@@ -15,7 +15,6 @@ ghost use Rattle.rvv_meaning.specs.VectorAccesses.{reads_memory, writes_memory};
 ghost use Rattle.vec_mem.specs.Resumption.{ResumeLaw};
 ghost use Rattle.vec_mem.specs.Views.{vectors_of};
 
-mod elements;
 mod fields;
 mod loads;
 mod places;

@@ -6,8 +6,8 @@ ghost use Rattle.rvv_meaning.specs.LoadsAndStores.{field_size as size_of_field, 
 ghost use Rattle.vec_mem.specs.Steps.{OffsetFits};
 ghost use Rattle.vec_mem.specs.Views.{vectors_of};
 
-use crate::elements::{element, mask_bit};
 use cam_chain::Chain;
+use register_elements::{element, mask_bit};
 use rvv_meaning::{Access, Offset};
 use vtype_cfg::Cfg;
 

@@ -7,12 +7,12 @@ ghost use Rattle.rvv_meaning.specs.Scalar.Accesses.{to_write};
 ghost use Rattle.rvv_meaning.specs.Scalar.{store_fault};
 ghost use Rattle.vec_mem.specs.Views.{vectors_of};
 
-use crate::elements::element;
 use crate::loads::{Stop, VecFault, end};
 use crate::places::{address, field_size, is_unmasked, per_field};
 use bitflags::Flags;
 use cam_chain::Chain;
 use guest_mem::{Mem, Perms};
+use register_elements::element;
 use rvv_meaning::Access;
 use vtype_cfg::Cfg;
 

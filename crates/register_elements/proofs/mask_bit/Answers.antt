@@ -1,7 +1,7 @@
 use Rattle.std.proofs.Common.{◌∙◌, arith}
 use Rattle.cam_chain.specs.ChainValue.{slices_of}
 use Rattle.cam_chain.proofs.Registers.{mask-here}
-use Rattle.vec_mem.proofs.elements.mask_bit.Goals as goal
+use Rattle.register_elements.proofs.mask_bit.Goals as goal
 
 pub bit-requires-clause-column : goal.bit-requires-clause-column
 unfolding slices_of

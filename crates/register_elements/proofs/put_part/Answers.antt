@@ -1,6 +1,6 @@
 use Rattle.std.proofs.Common.{arith}
 use Rattle.cam_chain.proofs.Registers.{raw-small}
-use Rattle.vec_mem.proofs.elements.put_part.Goals as goal
+use Rattle.register_elements.proofs.put_part.Goals as goal
 
 pub overflow_mul-made-2 : goal.overflow_mul-made-2
 overflow_mul-made-2 c = let h = raw-small c.from-old.result c.args.from c.args.size c.from.result (omega arith) c.requires in omega arith

@@ -1,7 +1,7 @@
 use Rattle.std.proofs.Common.{◌∙◌}
 use Rattle.cam_chain.specs.ChainValue.{slices_of}
 use Rattle.cam_chain.proofs.Registers.{element_read}
-use Rattle.vec_mem.proofs.elements.element.Goals as goal
+use Rattle.register_elements.proofs.element.Goals as goal
 
 pub returns : goal.returns
 unfolding slices_of

@@ -1,6 +1,6 @@
 use Rattle.cam_chain.specs.ChainValue.{slices_of}
 use Rattle.cam_chain.proofs.Registers.{element_written}
-use Rattle.vec_mem.proofs.elements.set_element.Goals as goal
+use Rattle.register_elements.proofs.set_element.Goals as goal
 
 pub returns-clause-vectors : goal.returns-clause-vectors
 unfolding slices_of

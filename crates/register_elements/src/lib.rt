@@ -1,9 +1,10 @@
-// Elements of vector registers that a chain holds.
+//! Elements of the vector registers that a chain of slices holds, read and written as numbers. Nothing is counted.
+#![tactic(auto)]
+
 ghost use Rattle.std.specs.Prelude.{◌≡◌, ◌+◌, ◌-◌, ◌*◌, ◌/◌, ◌<◌, ◌≤◌, ◌^◌, ◌%◌};
 ghost use Rattle.element_ops.specs.Elements.{element_of, mask_bit_of, with_element, IsSize};
 ghost use Rattle.cam_chain.specs.ChainValue.{slices_of};
-ghost use Rattle.vec_mem.specs.Views.{vectors_of};
-ghost use Rattle.cam_chain.specs.Views.{KeepsRest};
+ghost use Rattle.cam_chain.specs.Views.{registers_of, KeepsRest};
 
 use bit_rows::Planes;
 use cam_chain::Chain;
@@ -11,10 +12,10 @@ use cam_chain::Chain;
 // The bytes of a column of a register.
 const WORD_BYTES: u32 = 4;
 
-// Bit `e` of v0.
-pub(crate) fn mask_bit(chain: &Chain, e: u32) -> bool
+/// Bit `e` of v0, where `e` is below the bits of a register.
+pub fn mask_bit(chain: &Chain, e: u32) -> bool
     requires { e < 32 * chain.now.columns }
-    ensures { result ≡ mask_bit_of (vectors_of chain.now) 0 e }
+    ensures { result ≡ mask_bit_of (registers_of (slices_of chain.now)) 0 e }
 {
     chain.bit((e % 32) as u8, 0, e / 32)
 }
@@ -43,12 +44,12 @@ fn put_part(word: u32, from: u32, size: u32, value: u32) -> u32
     made as u32
 }
 
-// Element `at`, of `size` bytes, of the registers from `first` on.
-pub(crate) fn element(chain: &Chain, first: u8, size: u32, at: u32) -> u32
+/// Element `at` of the registers from `first` on, as a number of `size` bytes, which are 1, 2 or 4. It lies in the registers.
+pub fn element(chain: &Chain, first: u8, size: u32, at: u32) -> u32
     requires size { IsSize size }
     requires place { (at + 1) * size ≤ (32 - first) * (4 * chain.now.columns) }
     requires register { first < 32 }
-    ensures { result ≡ element_of (4 * chain.now.columns) (vectors_of chain.now) first (8 * size) at }
+    ensures { result ≡ element_of (4 * chain.now.columns) (registers_of (slices_of chain.now)) first (8 * size) at }
 {
     let columns = chain.columns();
     let place = at * size;
@@ -61,12 +62,12 @@ pub(crate) fn element(chain: &Chain, first: u8, size: u32, at: u32) -> u32
     )
 }
 
-// Writes it.
-pub(crate) fn set_element(chain: &mut Chain, first: u8, size: u32, at: u32, value: u32)
+/// Writes an element, of which it takes the lowest bytes of `value`. All else stays.
+pub fn set_element(chain: &mut Chain, first: u8, size: u32, at: u32, value: u32)
     requires size { IsSize size }
     requires place { (at + 1) * size ≤ (32 - first) * (4 * chain.old.columns) }
     requires register { first < 32 }
-    ensures vectors { vectors_of chain.new ≡ with_element (4 * chain.old.columns) (vectors_of chain.old) first (8 * size) at value }
+    ensures vectors { registers_of (slices_of chain.new) ≡ with_element (4 * chain.old.columns) (registers_of (slices_of chain.old)) first (8 * size) at value }
     ensures rest { KeepsRest (slices_of chain.old) (slices_of chain.new) }
     ensures columns { chain.new.columns ≡ chain.old.columns }
     ensures counts { chain.new.counts ≡ chain.old.counts }

@@ -1,0 +1,75 @@
+-- What an instruction that computes from the vector registers leaves: a number, where its operation makes one, or else elements.
+use Rattle.std.proofs.Common.{◌≡◌, ℕ, Bool, true, false, ◌||◌, List, Option, Some, None, refl, sym, ◌∙◌, ap, ⊎_elim}
+use Rattle.std.specs.Prelude.{is_some}
+use Rattle.std.proofs.lemmas.Bool.{false≢true}
+use Rattle.rvv_decode.specs.declared.instruction.OpmOp.{OpmOp}
+use Rattle.rvv_decode.specs.declared.instruction.OpmOp.TheVariants.{VmvXS, Vcpop, Vfirst}
+use Rattle.rvv_decode.specs.declared.instruction.VInstr.{VInstr}
+use Rattle.rvv_decode.specs.declared.instruction.VOp.{VOp}
+use Rattle.rvv_decode.specs.declared.instruction.VOp.TheVariants.{Opi, Opm, Config, Memory}
+use Rattle.vtype_cfg.specs.declared.configuration.Cfg.{Cfg}
+use Rattle.vtype_cfg.specs.declared.configuration.Policy.TheVariants.{Keep}
+use Rattle.rvv_meaning.specs.Elementwise.{Elementwise}
+use Rattle.rvv_meaning.specs.Operations.{Operation, operation_for, on_elements}
+use Rattle.rvv_meaning.specs.Vectors.{is_computed, left_as, left_by, left_of}
+use Rattle.rvv_meaning.specs.Whole.{Left, elements, number, Leaving, whole_for, makes_number}
+
+-- what is left is a number, or elements
+abbrev pub Kind : Bool → Left → Type 0
+Kind true l = (n : ℕ) × (l ≡ number n)
+Kind false l = (e : Elementwise) × (l ≡ elements e)
+
+abbrev KindOf : (op : VOp) → Option Leaving → Type 0
+KindOf op None = Unit {0}
+KindOf op (Some leaving) = (i : VInstr) (c : Cfg) (x : ℕ) (v : List (List ℕ)) → Kind (makes_number op) (leaving i c x v)
+
+opm-kind : (op : OpmOp) → KindOf (Opm op) (whole_for (Opm op))
+unfolding whole_for
+opm-kind VmvXS = λ i c x v. (_, refl)
+opm-kind _ = tt
+
+whole-kind : (op : VOp) → KindOf op (whole_for op)
+unfolding whole_for
+whole-kind (Opi op) = tt
+whole-kind (Opm op) = opm-kind op
+whole-kind (Config op) = tt
+whole-kind (Memory op) = tt
+
+-- an operation on elements makes no number
+opm-elements : (op : OpmOp) (o : Operation) → operation_for (Opm op) ≡ Some o → makes_number (Opm op) ≡ false
+unfolding operation_for
+opm-elements VmvXS o is = cc
+opm-elements Vcpop o is = cc
+opm-elements Vfirst o is = cc
+opm-elements _ o is = refl
+
+operation-elements : (op : VOp) (o : Operation) → operation_for op ≡ Some o → makes_number op ≡ false
+unfolding operation_for
+operation-elements (Opi op) o is = refl
+operation-elements (Opm op) o is = opm-elements op o is
+operation-elements (Config op) o is = refl
+operation-elements (Memory op) o is = refl
+
+-- what an instruction leaves that is computed
+pub record Computed (i : VInstr) (c : Cfg) (x : ℕ) (v : List (List ℕ)) : Type 0 where
+  pub left : Left
+  pub is : left_of i c x v ≡ Some left
+  pub kind : Kind (makes_number i.op) left
+
+module _ (i : VInstr) (c : Cfg) (x : ℕ) (v : List (List ℕ)) where
+  computed-by : (o : Option Operation) (w : Option Leaving) → operation_for i.op ≡ o → whole_for i.op ≡ w → KindOf i.op w → (is_some o || is_some w) ≡ true
+      → Computed i c x v
+  computed-by (Some o) w is of kind some = record {
+    left = elements (on_elements i c x o);
+    is = rw is refl;
+    kind = rw (operation-elements i.op o is) (on_elements i c x o, refl);
+  }
+  computed-by None (Some leaving) is of kind some = record {
+    left = leaving i (record c { policy = Keep }) x v;
+    is = rw (is, of) refl;
+    kind = kind i (record c { policy = Keep }) x v;
+  }
+  computed-by None None is of kind some = absurd (false≢true some)
+
+  pub computed-left : is_computed i.op ≡ true → Computed i c x v
+  computed-left computed = computed-by (operation_for i.op) (whole_for i.op) refl refl (whole-kind i.op) computed
