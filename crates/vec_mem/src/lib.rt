@@ -19,6 +19,7 @@ mod elements;
 mod fields;
 mod loads;
 mod places;
+mod runs;
 mod stores;
 mod table;
 
