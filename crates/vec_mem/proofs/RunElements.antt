@@ -1,25 +1,16 @@
 -- The elements of a run as bytes.
-use Rattle.std.proofs.Common.{◌≡◌, ℕ, zero, suc, ◌+◌, ◌-◌, ◌*◌, ◌/◌, ◌%◌, ◌^◌, ◌<◌, ◌≤◌, Bool, true, false, cond, not, ◌&&◌, ◌||◌, eqb, ltb, leb, List, [], ◌∷◌, ◌++◌, Option, Some, None, is_some, is_none, unwrap_or, length, get_or, refl, sym, ◌∙◌, ap, arith, ◌⊎◌, ⊎_elim}
-use Rattle.std.specs.List.{find, filter, range_with_len}
-use Rattle.std.proofs.lemmas.Bool.{cases_lt, cases_eq, and_parts, eqb-true, lt-ltb, le-ltb, le-leb, lt-leb}
-use Rattle.std.proofs.lemmas.Nat.{shr-shr, div-add-mod'}
-use Rattle.std.proofs.Math.Nat.{mul-le-mul_right, div-lt_iff_lt-mul, mod-lt}
+use Rattle.std.proofs.Common.{◌≡◌, ℕ, zero, suc, ◌+◌, ◌-◌, ◌*◌, ◌/◌, ◌%◌, ◌^◌, ◌<◌, ◌≤◌, Bool, true, false, not, ◌&&◌, eqb, leb, List, Option, Some, None, is_some, is_none, unwrap_or, refl, ◌∙◌, ap, arith, ⊎_elim}
+use Rattle.std.proofs.lemmas.Bool.{cases_lt, and_parts, eqb-true, lt-leb}
+use Rattle.std.proofs.lemmas.Nat.{shr-shr}
 use Rattle.bit_laws.specs.Numbers.{low, byte_of}
-use Rattle.element_ops.specs.Elements.{AreRegisters, IsSize, byte_at, with_bytes, with_elements, place_in_group, element_of}
-use Rattle.element_ops.proofs.Groups.{bytes-same, old-byte}
 use Rattle.guest_mem.specs.Pages.{Pages, first_bad, loaded, next, byte_at as memory_byte}
 use Rattle.vtype_cfg.specs.declared.configuration.Cfg.{Cfg}
 use Rattle.rvv_meaning.specs.declared.accesses.Offset.{Offset}
 use Rattle.rvv_meaning.specs.declared.accesses.Offset.TheVariants.{Step, Index}
 use Rattle.rvv_meaning.specs.declared.accesses.Access.{Access}
-use Rattle.rvv_meaning.specs.Elementwise.{size_of, is_ones}
-use Rattle.rvv_meaning.specs.LoadsAndStores.{field_size, element_size, per_field, address, field_address, is_unmasked, moved, bad, stop, slot_after, loaded_by, old_slot, place}
-use Rattle.cam_chain.proofs.Registers.{some-size}
-use Rattle.vec_mem.specs.Steps.{Fits}
-use Rattle.vec_mem.specs.Runs.{with_run, byte_after, is_step_of, is_run, run_start, run_length, runs}
+use Rattle.rvv_meaning.specs.LoadsAndStores.{field_size, element_size, address, is_unmasked, moved, bad, stop}
+use Rattle.vec_mem.specs.Runs.{byte_after, is_step_of, is_run, run_start, run_length, runs}
 use Rattle.vec_mem.proofs.Finding.{find-skips}
-use Rattle.vec_mem.proofs.Loading.{all-whole, is-wide}
-use Rattle.vec_mem.proofs.Looping.{come_to}
 use Rattle.vec_mem.proofs.Numbering.{part-none}
 
 -- ---- what the test says

@@ -1,16 +1,16 @@
 -- The registers that the load of a run comes to.
-use Rattle.std.proofs.Common.{◌≡◌, ℕ, zero, suc, ◌+◌, ◌-◌, ◌*◌, ◌/◌, ◌%◌, ◌^◌, ◌<◌, ◌≤◌, Bool, true, false, cond, not, ◌&&◌, ◌||◌, ltb, leb, List, length, get_or, refl, sym, ◌∙◌, ap, arith, ⊎_elim}
+use Rattle.std.proofs.Common.{◌≡◌, ℕ, suc, ◌+◌, ◌-◌, ◌*◌, ◌/◌, ◌%◌, ◌^◌, ◌<◌, ◌≤◌, Bool, true, false, cond, ◌&&◌, ltb, leb, List, refl, sym, ◌∙◌, ap, arith, ⊎_elim}
 use Rattle.std.proofs.lemmas.Bool.{cases_lt, lt-ltb, le-ltb, le-leb, lt-leb}
 use Rattle.std.proofs.lemmas.Nat.{div-add-mod', div-mul-add, mod-mul-add}
 use Rattle.std.proofs.Math.Nat.{mul-le-mul_right, div-lt_iff_lt-mul, mod-lt}
 use Rattle.bit_laws.specs.Numbers.{low, byte_of}
-use Rattle.element_ops.specs.Elements.{AreRegisters, byte_at, with_bytes, with_elements, place_in_group, element_of, mask_bit_of}
+use Rattle.element_ops.specs.Elements.{AreRegisters, byte_at, with_elements, place_in_group}
 use Rattle.element_ops.proofs.Groups.{bytes-same, old-byte}
 use Rattle.guest_mem.specs.Pages.{Pages, loaded}
 use Rattle.vtype_cfg.specs.declared.configuration.Cfg.{Cfg}
 use Rattle.rvv_meaning.specs.declared.accesses.Access.{Access}
 use Rattle.rvv_meaning.specs.Elementwise.{size_of, is_ones}
-use Rattle.rvv_meaning.specs.LoadsAndStores.{field_size, per_field, address, field_address, slot_after, slot_at_place, loaded_by, old_slot, place}
+use Rattle.rvv_meaning.specs.LoadsAndStores.{field_size, per_field, address, field_address, slot_after, loaded_by, old_slot}
 use Rattle.bit_rows.specs.Slices.{Slices}
 use Rattle.cam_chain.specs.Views.{registers_of}
 use Rattle.cam_chain.proofs.Registers.{some-size, are-registers_of}

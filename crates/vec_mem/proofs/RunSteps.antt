@@ -1,5 +1,5 @@
 -- The steps of a run, as the code says them.
-use Rattle.std.proofs.Common.{◌≡◌, ℕ, zero, suc, ◌+◌, ◌-◌, ◌*◌, ◌/◌, ◌%◌, ◌^◌, ◌<◌, ◌≤◌, Bool, true, false, cond, ◌&&◌, ltb, leb, List, [], ◌++◌, take, drop, length, get_or, Option, None, unwrap_or, refl, sym, ◌∙◌, ap, arith, ⊎_elim, append_assoc}
+use Rattle.std.proofs.Common.{◌≡◌, ℕ, zero, suc, ◌+◌, ◌-◌, ◌*◌, ◌/◌, ◌%◌, ◌^◌, ◌<◌, ◌≤◌, cond, ◌&&◌, ltb, leb, List, ◌++◌, take, drop, length, get_or, None, refl, sym, ◌∙◌, ap, arith, ⊎_elim, append_assoc}
 use Rattle.std.proofs.lemmas.Bool.{cases_lt, lt-ltb, le-ltb, le-leb, lt-leb}
 use Rattle.std.proofs.lemmas.List.{get_or_append_left, get_or-append_right, get_or-take, get_or-drop, length-take-le, length-append, length-drop, ext_get_or, drop-drop}
 use Rattle.std.proofs.lemmas.Nat.{div-add-mod'}
@@ -9,7 +9,7 @@ use Rattle.bit_laws.specs.Lists.{tabulate}
 use Rattle.bit_laws.proofs.Lists.{length-tabulate, get-tabulate}
 use Rattle.bit_rows.specs.Slices.{Slices}
 use Rattle.cam_chain.specs.Views.{registers_of, register_byte, register_of}
-use Rattle.cam_chain.proofs.Registers.{byte-here, register-here}
+use Rattle.cam_chain.proofs.Registers.{register-here}
 use Rattle.element_ops.specs.Elements.{AreRegisters, byte_at}
 use Rattle.guest_mem.specs.Pages.{Pages, first_bad}
 use Rattle.guest_mem.specs.Ranges.{range_bytes}

@@ -1,6 +1,6 @@
 -- The pages that the store of a run leaves.
-use Rattle.std.proofs.Common.{◌≡◌, ℕ, zero, suc, ◌+◌, ◌-◌, ◌*◌, ◌/◌, ◌%◌, ◌^◌, ◌<◌, ◌≤◌, Bool, true, false, cond, not, ◌||◌, ltb, List, [], ◌∷◌, ◌++◌, Option, None, length, refl, sym, ◌∙◌, ap, arith, append_assoc, append-nil}
-use Rattle.std.specs.List.{filter, fold, range_with_len}
+use Rattle.std.proofs.Common.{◌≡◌, ℕ, zero, suc, ◌+◌, ◌-◌, ◌*◌, ◌/◌, ◌%◌, ◌^◌, ◌<◌, ◌≤◌, Bool, true, ltb, List, [], ◌∷◌, ◌++◌, refl, sym, ◌∙◌, ap, arith, append_assoc, append-nil}
+use Rattle.std.specs.List.{filter, range_with_len}
 use Rattle.std.proofs.lemmas.Bool.{lt-ltb}
 use Rattle.std.proofs.lemmas.Nat.{div-mul-add, mod-mul-add, div-add-mod'}
 use Rattle.bit_laws.specs.Numbers.{low}
@@ -12,7 +12,7 @@ use Rattle.guest_mem.proofs.Writing.{written-none, written-append}
 use Rattle.vtype_cfg.specs.declared.configuration.Cfg.{Cfg}
 use Rattle.rvv_meaning.specs.declared.accesses.Access.{Access}
 use Rattle.rvv_meaning.specs.Elementwise.{size_of}
-use Rattle.rvv_meaning.specs.LoadsAndStores.{field_size, element_size, per_field, address, is_unmasked, moved, stop, done_below, byte_stored, bytes_of, stored_all, pages_stored}
+use Rattle.rvv_meaning.specs.LoadsAndStores.{field_size, element_size, per_field, address, is_unmasked, moved, byte_stored, bytes_of, stored_all, pages_stored}
 use Rattle.vec_mem.specs.Steps.{Fits}
 use Rattle.vec_mem.specs.Runs.{run_start, run_length}
 use Rattle.vec_mem.proofs.RunElements.{IsRun, Runs, at-address, run-stops}

@@ -1,4 +1,4 @@
-use Rattle.std.proofs.Common.{refl, sym, ◌∙◌, arith}
+use Rattle.std.proofs.Common.{sym, ◌∙◌, arith}
 use Rattle.cam_chain.specs.ChainValue.{slices_of}
 use Rattle.vec_mem.specs.Views.{vectors_of}
 use Rattle.vec_mem.proofs.Looping.{tail-all, tail-left}

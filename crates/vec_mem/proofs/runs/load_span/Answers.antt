@@ -1,4 +1,4 @@
-use Rattle.std.proofs.Common.{◌*◌, refl, sym, ◌∙◌, arith}
+use Rattle.std.proofs.Common.{◌*◌, refl, ◌∙◌, arith}
 use Rattle.cam_chain.specs.ChainValue.{slices_of}
 use Rattle.cam_chain.proofs.Registers.{are-registers_of}
 use Rattle.vec_mem.specs.Runs.{byte_after}

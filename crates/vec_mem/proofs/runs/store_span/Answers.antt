@@ -1,4 +1,4 @@
-use Rattle.std.proofs.Common.{ℕ, ◌+◌, ◌-◌, ◌*◌, refl, ◌∙◌, ap, arith}
+use Rattle.std.proofs.Common.{◌+◌, ◌-◌, ◌*◌, refl, ◌∙◌, ap, arith}
 use Rattle.bit_laws.specs.Numbers.{low}
 use Rattle.element_ops.specs.Elements.{group_byte}
 use Rattle.guest_mem.specs.Pages.{Memory}

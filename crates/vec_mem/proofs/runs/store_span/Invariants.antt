@@ -1,4 +1,4 @@
-use Rattle.std.proofs.Common.{◌≡◌, ℕ, ◌+◌, ◌-◌, ◌*◌, ◌≤◌}
+use Rattle.std.proofs.Common.{◌≡◌, ◌+◌, ◌-◌, ◌*◌, ◌≤◌}
 use Rattle.bit_laws.specs.Numbers.{low}
 use Rattle.bit_laws.specs.Lists.{tabulate}
 use Rattle.element_ops.specs.Elements.{group_byte}

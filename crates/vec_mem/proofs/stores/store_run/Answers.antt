@@ -1,4 +1,4 @@
-use Rattle.std.proofs.Common.{refl, sym, ◌∙◌, ap, arith}
+use Rattle.std.proofs.Common.{◌∙◌, ap}
 use Rattle.guest_mem.specs.Pages.{Pages}
 use Rattle.vec_mem.specs.Views.{vectors_of}
 use Rattle.vec_mem.proofs.RunElements.{runs-are, run-stops}
