@@ -12,7 +12,7 @@ ghost use Rattle.cam_chain.specs.Views.{KeepsRest};
 
 use crate::fields::{fill_fields, load_element, makes_ones};
 use crate::places::{field_size, per_field};
-use crate::runs::{is_open_run, load_span};
+use crate::runs::{RUN_VLEN, is_open_run, load_span};
 use bitflags::Flags;
 use cam_chain::Chain;
 use guest_mem::{Mem, Perms};
@@ -130,7 +130,7 @@ fn load_all(access: &Access, cfg: &Cfg, base: u32, chain: &mut Chain, mem: &Mem)
     ensures columns { chain.new.columns ≡ chain.old.columns }
     ensures counts { chain.new.counts ≡ chain.old.counts }
 {
-    if is_open_run(access, cfg, base, mem, Perms::READ) {
+    if cfg.vlen >= RUN_VLEN && is_open_run(access, cfg, base, mem, Perms::READ) {
         load_run(access, cfg, base, chain, mem);
         return None;
     }

@@ -20,6 +20,9 @@ use register_bytes::{MAX_BYTES, read_register, write_register};
 use rvv_meaning::{Access, Offset};
 use vtype_cfg::Cfg;
 
+// Registers of fewer bits are moved faster element by element.
+pub(crate) const RUN_VLEN: u32 = 512;
+
 // Each element stands right after the one before it.
 fn is_step(offset: Offset, size: u32) -> bool
     ensures { result ≡ is_step_of offset size }

@@ -11,7 +11,7 @@ ghost use Rattle.vec_mem.specs.Views.{vectors_of};
 use crate::elements::element;
 use crate::loads::{Stop, VecFault, end};
 use crate::places::{address, field_size, is_unmasked, per_field};
-use crate::runs::{is_open_run, store_span};
+use crate::runs::{RUN_VLEN, is_open_run, store_span};
 use bitflags::Flags;
 use cam_chain::Chain;
 use guest_mem::{Mem, Perms};
@@ -133,7 +133,7 @@ fn store_all(access: &Access, cfg: &Cfg, base: u32, chain: &Chain, mem: &mut Mem
     ensures bad { IfSome result (λ s. bad cfg.now access.now base (vectors_of chain.now) to_write mem.old.pages s.element ≡ Some s.address) }
     ensures pages { mem.new ≡ record mem.old { pages = pages_stored cfg.now access.now base (vectors_of chain.now) mem.old.pages } }
 {
-    if is_open_run(access, cfg, base, mem, Perms::WRITE) {
+    if cfg.vlen >= RUN_VLEN && is_open_run(access, cfg, base, mem, Perms::WRITE) {
         store_run(access, cfg, base, chain, mem);
         return None;
     }
