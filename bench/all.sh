@@ -9,9 +9,4 @@ need_beside "$model"
 
 for benchmark in scalar vector pages; do
     "$top/bench/$benchmark.sh" "$cape" "${2:-5}"
-done | awk -F': ' '
-    /^race: / { title = $2 }
-    /^cape: / { ours = $2 }
-    /^model: / { theirs = $2 }
-    /^ratio: / { printf "%-44s %10s %10s %6.2f\n", title, ours, theirs, $2 / 100 }
-    /differ/ { print }'
+done | table

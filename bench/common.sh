@@ -51,3 +51,13 @@ race() {
         cmp "$work/report" "$work/err"
     fi
 }
+
+# One table of the races that are read: a line for each, with the two times and their ratio.
+table() {
+    awk -F': ' '
+    /^race: / { title = $2 }
+    /^cape: / { ours = $2 }
+    /^model: / { theirs = $2 }
+    /^ratio: / { printf "%-44s %10s %10s %6.2f\n", title, ours, theirs, $2 / 100 }
+    /differ/ { print }'
+}

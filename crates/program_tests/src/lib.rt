@@ -18,4 +18,6 @@ mod pieces;
 #[cfg(test)]
 mod plans;
 #[cfg(test)]
+mod resumptions;
+#[cfg(test)]
 mod runs;

@@ -45,16 +45,16 @@ const ROOM: usize = 10;
 // A run: its words, its steps, whether both outputs are one, and the puts of the sinks that fail, with the bytes that they
 // put. The input fails at its first take.
 #[derive(Clone, Copy)]
-struct Run {
-    words: &'static [u32; 6],
-    steps: u64,
-    merged: bool,
-    fails: &'static [(u64, usize)],
+pub(crate) struct Run {
+    pub(crate) words: &'static [u32; 6],
+    pub(crate) steps: u64,
+    pub(crate) merged: bool,
+    pub(crate) fails: &'static [(u64, usize)],
 }
 
 // What a run reads, and where it writes.
 #[derive(Drop)]
-struct Devices {
+pub(crate) struct Devices {
     input: MemSource,
     out: MemSink,
     err: MemSink,
@@ -70,14 +70,14 @@ struct Ran {
 
 // A machine that is to run the words.
 #[tactic(auto, unfolding(vtype_cfg::specs::Settings::is_legal_vlen, vtype_cfg::specs::Settings::legal_vlens))]
-fn machine_of(alloc: Global, words: &[u32; 6]) -> Result<Machine, Fail> {
+pub(crate) fn machine_of(alloc: Global, words: &[u32; 6]) -> Result<Machine, Fail> {
     let image = image_of(alloc, words.as_slice())?;
     let loaded = load(alloc, &image).ok().ok_or("the image loads")?;
     Ok(Machine::new(alloc, loaded, VLEN, Policy::Keep)?)
 }
 
 // The devices of the run.
-fn devices_of(alloc: Global, run: &Run) -> Result<Devices, Fail> {
+pub(crate) fn devices_of(alloc: Global, run: &Run) -> Result<Devices, Fail> {
     Ok(Devices {
         input: MemSource::new(alloc, &[], 1, &[0])?,
         out: MemSink::new(alloc, ROOM, run.fails)?,
@@ -86,7 +86,11 @@ fn devices_of(alloc: Global, run: &Run) -> Result<Devices, Fail> {
 }
 
 // The answer of a machine that has retired few instructions, after the run, if no device failed.
-fn answer_after(machine: &mut Machine, run: &Run, devices: &mut Devices) -> Option<Step> {
+pub(crate) fn answer_after(
+    machine: &mut Machine,
+    run: &Run,
+    devices: &mut Devices,
+) -> Option<Step> {
     if run.steps > MOST_STEPS || machine.retired() > MOST_STEPS {
         return None;
     }
@@ -137,7 +141,7 @@ const START: Row = Row {
     err: &[],
 };
 
-const SPLAT_RUN: Run = Run {
+pub(crate) const SPLAT_RUN: Run = Run {
     words: &SPLAT,
     steps: 0,
     merged: false,
@@ -389,9 +393,9 @@ const SHOWN_BYTES: u32 = 20;
 
 // A register, and its first bytes.
 #[derive(Clone, Copy)]
-struct Register {
-    number: u8,
-    bytes: [u8; SHOWN_BYTES as usize],
+pub(crate) struct Register {
+    pub(crate) number: u8,
+    pub(crate) bytes: [u8; SHOWN_BYTES as usize],
 }
 
 static REGISTERS: [Register; 2] = [
@@ -406,7 +410,7 @@ static REGISTERS: [Register; 2] = [
 ];
 
 // Whether the register begins with its bytes.
-fn begins_with(machine: &Machine, register: &Register) -> bool {
+pub(crate) fn begins_with(machine: &Machine, register: &Register) -> bool {
     for j in 0..SHOWN_BYTES {
         if register.number >= REGISTER_COUNT
             || j >= machine.csrs().vlen / 8

@@ -1,5 +1,5 @@
 -- The premises on an access can be met.
-use Rattle.std.proofs.Common.{◌≡◌, ℕ, ◌*◌, ◌/◌, true, false, refl, arith, inl, inr}
+use Rattle.std.proofs.Common.{ℕ, false, refl, arith, inl, inr}
 use Rattle.vtype_cfg.specs.declared.configuration.Cfg.{Cfg}
 use Rattle.vtype_cfg.specs.declared.configuration.Policy.TheVariants.{Keep}
 use Rattle.rvv_meaning.specs.declared.accesses.Offset.TheVariants.{Step, Index}

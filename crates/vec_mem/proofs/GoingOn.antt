@@ -1,7 +1,7 @@
 -- An instruction that trapped in a load or a store goes on.
-use Rattle.std.proofs.Common.{◌≡◌, ℕ, ◌+◌, ◌-◌, ◌*◌, ◌/◌, ◌<◌, ◌≤◌, Bool, true, false, cond, not, ◌||◌, IsTrue, List, Option, Some, None, is_some, refl, sym, ◌∙◌, ap, arith, ⊎_elim}
+use Rattle.std.proofs.Common.{◌≡◌, ℕ, ◌*◌, ◌/◌, ◌<◌, Bool, true, false, cond, ◌||◌, IsTrue, List, Option, Some, None, is_some, refl, sym, ap, arith, ⊎_elim}
 use Rattle.std.specs.Option.{option_map}
-use Rattle.std.proofs.lemmas.Bool.{or_cases, and_parts, not-true, false≢true}
+use Rattle.std.proofs.lemmas.Bool.{or_cases, false≢true}
 use Rattle.element_ops.specs.Elements.{AreRegisters}
 use Rattle.guest_mem.specs.Pages.{Pages, with_page}
 use Rattle.rvv_decode.specs.Ranges.{IsInRange}
@@ -18,7 +18,7 @@ use Rattle.vtype_cfg.specs.Settings.{is_valid}
 use Rattle.vtype_cfg.proofs.Lengths.{vlen_from, vlen_words}
 use Rattle.rvv_meaning.specs.Elementwise.{size_of, is_ones}
 use Rattle.rvv_meaning.specs.LoadsAndStores.{with_address, bad, stop, traps_at, trapped, cfg_after, registers_loaded, pages_stored, loads, stores, outcome}
-use Rattle.rvv_meaning.specs.VectorAccesses.{access_of, shape_of, trims_of, is_store, reads_memory, writes_memory}
+use Rattle.rvv_meaning.specs.VectorAccesses.{access_of, shape_of, trims_of, reads_memory, writes_memory}
 use Rattle.rvv_meaning.specs.declared.accesses.Access.{Access}
 use Rattle.vec_mem.specs.Resumption.{AsOnce, policy_ones, going_on, GoesOn, ResumeLaw}
 use Rattle.vec_mem.specs.Steps.{Fits, FitsLoad}

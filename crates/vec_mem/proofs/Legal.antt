@@ -1,7 +1,7 @@
 -- The access of a legal instruction lies in the registers, and a load reads what it needs before it writes over it.
-use Rattle.std.proofs.Common.{◌≡◌, ℕ, zero, suc, ◌+◌, ◌-◌, ◌*◌, ◌/◌, ◌%◌, ◌^◌, ◌<◌, ◌≤◌, max, Bool, true, false, not, nat_le, ◌&&◌, ◌||◌, ◌==◌, IsTrue, refl, sym, ◌∙◌, ap, subst, arith, ◌⊎◌, inl, inr, ⊎_elim}
+use Rattle.std.proofs.Common.{◌≡◌, ℕ, ◌+◌, ◌-◌, ◌*◌, ◌/◌, ◌%◌, ◌<◌, ◌≤◌, max, Bool, true, false, not, nat_le, ◌&&◌, ◌||◌, ◌==◌, IsTrue, refl, sym, ap, arith, ◌⊎◌, inl, inr, ⊎_elim}
 use Rattle.std.specs.List.{list_all}
-use Rattle.std.proofs.lemmas.Bool.{and_parts, or_cases, leb-true, eqb-true, le-leb, not-true, cases_Bool, false≢true}
+use Rattle.std.proofs.lemmas.Bool.{and_parts, leb-true, eqb-true, le-leb, not-true, cases_Bool, false≢true}
 use Rattle.std.proofs.Math.Nat.{mul-le-mul_right, mul-le-mul_left, div-le_of_le-mul}
 use Rattle.std.proofs.lemmas.Nat.{div-mul-add, div-add-mod'}
 use Rattle.element_ops.specs.Elements.{IsSize}
@@ -18,13 +18,12 @@ use Rattle.vtype_cfg.specs.Legality.{is_legal, obeys_rules}
 use Rattle.vtype_cfg.specs.Settings.{Setting, settings, is_supported, is_vill_or_supported, is_legal_vlen, is_valid, vlmax}
 use Rattle.vtype_cfg.proofs.Lengths.{vlen_from}
 use Rattle.vtype_cfg.proofs.Supported.{at_supported, vlen_bounded}
-use Rattle.legal_groups.specs.Facts.{IsElementWidth, registers_for, SparesMask, FieldGroups, IndexBeside, IndexRoom, WholeRoom, MaskRoom, LegalAccessLaw}
+use Rattle.legal_groups.specs.Facts.{IsElementWidth, registers_for, SparesMask, FieldGroups, IndexBeside, IndexRoom, WholeRoom, MaskRoom}
 use Rattle.legal_groups.proofs.Accesses.{legal_access_law}
 use Rattle.legal_groups.proofs.Laws.{in_setting}
 use Rattle.legal_groups.proofs.Widths.{in_force}
 use Rattle.rvv_meaning.specs.Elementwise.{size_of}
-use Rattle.rvv_meaning.specs.LoadsAndStores.{field_size, per_field}
-use Rattle.rvv_meaning.specs.VectorAccesses.{Shape, of_elements, of_registers, access_of, shape_of, trims_of, is_store}
+use Rattle.rvv_meaning.specs.VectorAccesses.{of_elements, of_registers, access_of, shape_of, trims_of, is_store}
 use Rattle.rvv_meaning.specs.declared.accesses.Access.{Access}
 use Rattle.rvv_meaning.specs.declared.accesses.Offset.{Offset}
 use Rattle.rvv_meaning.specs.declared.accesses.Offset.TheVariants.{Step, Index}

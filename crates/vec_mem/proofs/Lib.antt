@@ -15,3 +15,8 @@ pub mod Resuming
 pub mod Restoring
 pub mod GoingOn
 mod Examples
+mod RunBytes
+mod RunElements
+mod RunLoads
+mod RunStores
+mod RunSteps

@@ -1,27 +1,25 @@
 -- What an instruction leaves, as its access says it; and the configuration after it is valid.
-use Rattle.std.proofs.Common.{◌≡◌, ℕ, ◌+◌, ◌-◌, ◌*◌, ◌/◌, ◌^◌, ◌<◌, ◌≤◌, Bool, true, false, cond, not, nat_le, nat_lt, ◌&&◌, IsTrue, List, Option, Some, None, is_some, unwrap_or, ltb, if◌then◌else◌, refl, sym, ◌∙◌, ap, arith, ◌⊎◌, inl, inr, ⊎_elim}
-use Rattle.std.proofs.lemmas.Bool.{and_parts, cases_Bool, not-true, false≢true}
+use Rattle.std.proofs.Common.{◌≡◌, ℕ, ◌-◌, ◌*◌, ◌^◌, ◌<◌, ◌≤◌, Bool, true, false, cond, not, nat_le, nat_lt, ◌&&◌, IsTrue, List, Option, Some, None, is_some, unwrap_or, ltb, refl, sym, ◌∙◌, ap, arith, ◌⊎◌, inl, inr}
+use Rattle.std.proofs.lemmas.Bool.{and_parts, not-true, false≢true}
 use Rattle.std.proofs.lemmas.Bool.Decides.{nat_tests}
 use Rattle.guest_mem.specs.Pages.{Pages}
-use Rattle.rvv_decode.specs.Ranges.{IsInRange}
 use Rattle.rvv_decode.specs.declared.instruction.MemoryOp.{MemoryOp}
 use Rattle.rvv_decode.specs.declared.instruction.MemoryOp.TheVariants.{LoadUnitStride, LoadWholeRegister, LoadMask, LoadFaultOnlyFirst, LoadIndexedUnordered, LoadStrided, LoadIndexedOrdered, StoreUnitStride, StoreWholeRegister, StoreMask, StoreIndexedUnordered, StoreStrided, StoreIndexedOrdered}
 use Rattle.rvv_decode.specs.declared.instruction.VInstr.{VInstr}
 use Rattle.rvv_decode.specs.declared.instruction.VOp.{VOp}
 use Rattle.rvv_decode.specs.declared.instruction.VOp.TheVariants.{Memory}
 use Rattle.vtype_cfg.specs.declared.configuration.Cfg.{Cfg}
-use Rattle.vtype_cfg.specs.Classes.{class_of, memory_class, needs_no_setting}
+use Rattle.vtype_cfg.specs.Classes.{memory_class, needs_no_setting}
 use Rattle.vtype_cfg.specs.Legality.{is_legal}
-use Rattle.vtype_cfg.specs.Settings.{is_vill_or_supported, is_legal_vlen, is_valid, vlmax}
+use Rattle.vtype_cfg.specs.Settings.{is_valid, vlmax}
 use Rattle.vtype_cfg.proofs.Supported.{setting_bounded, vlen_bounded}
-use Rattle.rvv_meaning.specs.Elementwise.{size_of}
-use Rattle.rvv_meaning.specs.LoadsAndStores.{Outcome, bad, is_unmasked, moved, stop, traps_at, trapped, cfg_after, loads, stores, outcome_by, outcome}
+use Rattle.rvv_meaning.specs.LoadsAndStores.{bad, is_unmasked, moved, stop, cfg_after, loads, stores, outcome_by, outcome}
 use Rattle.rvv_meaning.specs.Scalar.Accesses.{to_read, to_write}
-use Rattle.rvv_meaning.specs.VectorAccesses.{Shape, whole, access_of, shape_of, trims_of, is_store, reads_memory, writes_memory}
+use Rattle.rvv_meaning.specs.VectorAccesses.{whole, access_of, shape_of, trims_of, is_store, reads_memory, writes_memory}
 use Rattle.rvv_meaning.specs.declared.accesses.Access.{Access}
-use Rattle.vec_mem.specs.Steps.{Fits, FitsLoad}
+use Rattle.vec_mem.specs.Steps.{Fits}
 use Rattle.vec_mem.proofs.Finding.{find-range}
-use Rattle.vec_mem.proofs.Legal.{Held, held, length-short, has-setting}
+use Rattle.vec_mem.proofs.Legal.{held, length-short, has-setting}
 
 -- ---- what the table asks for
 

@@ -1,9 +1,9 @@
 -- Stores: they change no permission, and what one element more makes of the pages.
-use Rattle.std.proofs.Common.{◌≡◌, ℕ, zero, suc, ◌+◌, ◌-◌, ◌*◌, ◌/◌, ◌%◌, ◌^◌, ◌<◌, ◌≤◌, Bool, true, false, cond, ◌&&◌, List, [], ◌∷◌, Option, Some, None, is_some, ltb, refl, sym, ◌∙◌, ap, arith, ⊎_elim}
+use Rattle.std.proofs.Common.{◌≡◌, ℕ, zero, suc, ◌+◌, ◌-◌, ◌*◌, ◌/◌, ◌%◌, ◌^◌, ◌<◌, ◌≤◌, Bool, true, false, cond, ◌&&◌, List, [], ◌∷◌, Option, Some, None, is_some, ltb, refl, sym, ◌∙◌, arith, ⊎_elim}
 use Rattle.std.specs.List.{filter, fold, range_with_len}
 use Rattle.std.proofs.lemmas.Bool.{cases_Bool, lt-ltb, le-ltb}
 use Rattle.std.proofs.Math.Nat.{mod-lt, mul-le-mul_right, div-lt_iff_lt-mul}
-use Rattle.guest_mem.specs.Pages.{Pages, Memory, first_bad, written}
+use Rattle.guest_mem.specs.Pages.{Pages, Memory, written}
 use Rattle.guest_mem.specs.Mapping.{SamePerms}
 use Rattle.guest_mem.proofs.Mapping.{bad-by-perms, same-written}
 use Rattle.guest_mem.proofs.Writing.{written-none, written-append}

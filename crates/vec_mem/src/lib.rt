@@ -18,6 +18,7 @@ ghost use Rattle.vec_mem.specs.Views.{vectors_of};
 mod fields;
 mod loads;
 mod places;
+mod runs;
 mod stores;
 mod table;
 

@@ -1,18 +1,21 @@
 // Loads.
-ghost use Rattle.std.specs.Prelude.{◌≡◌, ◌+◌, ◌-◌, ◌*◌, ◌<◌, None, Some, IfSome, OnOk, IfErr, option_map, Option, ℕ};
+ghost use Rattle.std.specs.Prelude.{◌≡◌, ◌+◌, ◌-◌, ◌*◌, ◌<◌, true, None, Some, IfSome, OnOk, IfErr, option_map, Option, ℕ};
 ghost use Rattle.cam_chain.specs.ChainValue.{slices_of};
 ghost use Rattle.rvv_meaning.specs.LoadsAndStores.{loads, bad, stop as first_stop, trapped, cfg_after, registers_loaded, per_field as elements_per_field};
 ghost use Rattle.vec_mem.specs.Steps.{tail_filled, fills_tail as tail_is_filled, Fits, FitsLoad};
 ghost use Rattle.rvv_meaning.specs.Scalar.Accesses.{to_read};
 ghost use Rattle.rvv_meaning.specs.Elementwise.{is_ones};
 ghost use Rattle.rvv_meaning.specs.Scalar.{load_fault};
+ghost use Rattle.vec_mem.specs.Runs.{runs};
 ghost use Rattle.vec_mem.specs.Views.{vectors_of};
 ghost use Rattle.cam_chain.specs.Views.{KeepsRest};
 
 use crate::fields::{fill_fields, load_element, makes_ones};
 use crate::places::{field_size, per_field};
+use crate::runs::{RUN_VLEN, is_open_run, load_span};
+use bitflags::Flags;
 use cam_chain::Chain;
-use guest_mem::Mem;
+use guest_mem::{Mem, Perms};
 use rvv_meaning::Access;
 use vtype_cfg::Cfg;
 
@@ -90,6 +93,50 @@ fn load_elements(
     None
 }
 
+// Loads the elements of a run, whose bytes may all be read.
+fn load_run(access: &Access, cfg: &Cfg, base: u32, chain: &mut Chain, mem: &Mem)
+    requires fits { Fits cfg.now access.now }
+    requires columns { cfg.now.vlen ≡ 32 * chain.old.columns }
+    requires run { runs cfg.now access.now base to_read mem.now.pages ≡ true }
+    ensures stop { first_stop cfg.now access.now base (vectors_of chain.old) to_read mem.now.pages ≡ None }
+    ensures vectors { vectors_of chain.new ≡ registers_loaded cfg.now access.now base (vectors_of chain.old) mem.now.pages (λ s. is_ones cfg.now.policy) }
+    ensures rest { KeepsRest (slices_of chain.old) (slices_of chain.new) }
+    ensures columns { chain.new.columns ≡ chain.old.columns }
+    ensures counts { chain.new.counts ≡ chain.old.counts }
+{
+    let size = field_size(access);
+    load_span(
+        chain,
+        mem,
+        access.register,
+        cfg.vstart * size,
+        access.len * size,
+        base,
+    );
+    if fills_tail(access, cfg) {
+        fill_tail(access, cfg, chain);
+    }
+}
+
+// Loads the elements up to one that cannot be loaded whole: those of a run as bytes, and others one after the other.
+fn load_all(access: &Access, cfg: &Cfg, base: u32, chain: &mut Chain, mem: &Mem) -> Option<Stop>
+    requires fits { Fits cfg.now access.now }
+    requires load { FitsLoad cfg.now access.now }
+    requires columns { cfg.now.vlen ≡ 32 * chain.old.columns }
+    ensures stop { option_map (λ s. s.element) result ≡ first_stop cfg.now access.now base (vectors_of chain.old) to_read mem.now.pages }
+    ensures bad { IfSome result (λ s. bad cfg.now access.now base (vectors_of chain.old) to_read mem.now.pages s.element ≡ Some s.address) }
+    ensures vectors { vectors_of chain.new ≡ registers_loaded cfg.now access.now base (vectors_of chain.old) mem.now.pages (λ s. is_ones cfg.now.policy) }
+    ensures rest { KeepsRest (slices_of chain.old) (slices_of chain.new) }
+    ensures columns { chain.new.columns ≡ chain.old.columns }
+    ensures counts { chain.new.counts ≡ chain.old.counts }
+{
+    if cfg.vlen >= RUN_VLEN && is_open_run(access, cfg, base, mem, Perms::READ) {
+        load_run(access, cfg, base, chain, mem);
+        return None;
+    }
+    load_elements(access, cfg, base, chain, mem)
+}
+
 // Ends an access: a stop traps, but that of one that trims the vector length, above element 0.
 #[tactic(auto, unfolding(rvv_meaning::specs::LoadsAndStores::cfg_after))]
 pub(crate) fn end(
@@ -142,6 +189,6 @@ pub(crate) fn load_access(
     ensures columns { chain.new.columns ≡ chain.old.columns }
     ensures counts { chain.new.counts ≡ chain.old.counts }
 {
-    let stop = load_elements(access, cfg, base, chain, mem);
+    let stop = load_all(access, cfg, base, chain, mem);
     end(access, cfg, LOAD_FAULT, stop)
 }

@@ -1,14 +1,16 @@
 // Stores.
-ghost use Rattle.std.specs.Prelude.{◌≡◌, ◌+◌, ◌-◌, ◌*◌, ◌/◌, ◌%◌, ◌<◌, ◌≤◌, ℕ, None, Some, IfSome, OnOk, IfErr, option_map};
+ghost use Rattle.std.specs.Prelude.{◌≡◌, ◌+◌, ◌-◌, ◌*◌, ◌/◌, ◌%◌, ◌<◌, ◌≤◌, ℕ, true, None, Some, IfSome, OnOk, IfErr, option_map};
 ghost use Rattle.guest_mem.specs.Pages.{written};
 ghost use Rattle.rvv_meaning.specs.LoadsAndStores.{stores, bad, byte_stored, bytes_of, element_size as size_of_element, stop as first_stop, pages_stored};
 ghost use Rattle.vec_mem.specs.Steps.{Fits, bad_if_moved, element_stored};
 ghost use Rattle.rvv_meaning.specs.Scalar.Accesses.{to_write};
 ghost use Rattle.rvv_meaning.specs.Scalar.{store_fault};
+ghost use Rattle.vec_mem.specs.Runs.{runs};
 ghost use Rattle.vec_mem.specs.Views.{vectors_of};
 
 use crate::loads::{Stop, VecFault, end};
 use crate::places::{address, field_size, is_unmasked, per_field};
+use crate::runs::{RUN_VLEN, is_open_run, store_span};
 use bitflags::Flags;
 use cam_chain::Chain;
 use guest_mem::{Mem, Perms};
@@ -104,6 +106,40 @@ fn store_elements(
     None
 }
 
+// Stores the elements of a run, whose bytes may all be written.
+fn store_run(access: &Access, cfg: &Cfg, base: u32, chain: &Chain, mem: &mut Mem)
+    requires fits { Fits cfg.now access.now }
+    requires columns { cfg.now.vlen ≡ 32 * chain.now.columns }
+    requires run { runs cfg.now access.now base to_write mem.old.pages ≡ true }
+    ensures stop { first_stop cfg.now access.now base (vectors_of chain.now) to_write mem.old.pages ≡ None }
+    ensures pages { mem.new ≡ record mem.old { pages = pages_stored cfg.now access.now base (vectors_of chain.now) mem.old.pages } }
+{
+    let size = field_size(access);
+    store_span(
+        chain,
+        mem,
+        access.register,
+        cfg.vstart * size,
+        access.len * size,
+        base,
+    );
+}
+
+// Stores the elements up to one that cannot be stored whole: those of a run as bytes, and others one after the other.
+fn store_all(access: &Access, cfg: &Cfg, base: u32, chain: &Chain, mem: &mut Mem) -> Option<Stop>
+    requires fits { Fits cfg.now access.now }
+    requires columns { cfg.now.vlen ≡ 32 * chain.now.columns }
+    ensures stop { option_map (λ s. s.element) result ≡ first_stop cfg.now access.now base (vectors_of chain.now) to_write mem.old.pages }
+    ensures bad { IfSome result (λ s. bad cfg.now access.now base (vectors_of chain.now) to_write mem.old.pages s.element ≡ Some s.address) }
+    ensures pages { mem.new ≡ record mem.old { pages = pages_stored cfg.now access.now base (vectors_of chain.now) mem.old.pages } }
+{
+    if cfg.vlen >= RUN_VLEN && is_open_run(access, cfg, base, mem, Perms::WRITE) {
+        store_run(access, cfg, base, chain, mem);
+        return None;
+    }
+    store_elements(access, cfg, base, chain, mem)
+}
+
 // Stores a vector. At a fault the elements below that of the fault are stored, and `vstart` is that element.
 pub(crate) fn store_access(
     access: &Access,
@@ -120,6 +156,6 @@ pub(crate) fn store_access(
     ensures fault { IfErr result (λ f. (stores cfg.old access.now base (vectors_of chain.now) mem.old.pages).fault ≡ Some (f.element, f.address)) }
     ensures cause { IfErr result (λ f. f.cause ≡ store_fault) }
 {
-    let stop = store_elements(access, cfg, base, chain, mem);
+    let stop = store_all(access, cfg, base, chain, mem);
     end(access, cfg, STORE_FAULT, stop)
 }

@@ -1,4 +1,3 @@
-use Rattle.std.proofs.Common.{◌≡◌}
 use Rattle.vec_mem.specs.Views.{vectors_of}
 use Rattle.vec_mem.proofs.Legal.{access-fits, load-fits}
 use Rattle.vec_mem.proofs.Outcomes.{table-for, reads, outcome-of-load, valid-after-load, trims-by-length}

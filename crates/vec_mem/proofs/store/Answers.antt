@@ -1,4 +1,3 @@
-use Rattle.std.proofs.Common.{◌≡◌}
 use Rattle.vec_mem.specs.Views.{vectors_of}
 use Rattle.vec_mem.proofs.Legal.{access-fits}
 use Rattle.vec_mem.proofs.Outcomes.{table-for, outcome-of-store, valid-after-store, trims-by-length}

@@ -1,0 +1,5 @@
+-- Lemmas on the bytes of registers.
+mod Planes
+mod Adding
+mod Writing
+mod Reading
