@@ -13,20 +13,8 @@ use Rattle.rvv_meaning.specs.declared.Meaning.TheVariants.{Scalar, Vector}
 use Rattle.rvv_meaning.specs.declared.Mode.{Mode}
 use Rattle.rvv_meaning.specs.declared.Next.TheVariants.{Stop, Perform}
 use Rattle.rvv_meaning.specs.States.{Core, next}
-use Rattle.rvv_meaning.specs.Vectors.{is_built, is_on_elements}
 use Rattle.vec_exec.specs.Programs.{is_engine, is_engine_op}
 use Rattle.machine.specs.Moments.{program_at, program_for}
-
-on_elements : (op : VOp) (form : Form) → is_built op ≡ true → is_engine_op op form ≡ true → is_on_elements op ≡ true
-on_elements (Opi op) form built runs = built
-on_elements (Opm op) form built runs = built
-on_elements (Config op) form built runs = absurd (false≢true runs)
-on_elements (Memory op) form built runs = absurd (false≢true runs)
-
--- what is built and a program carries out is an instruction on elements
-pub engine_on_elements : (i : VInstr) → is_built i.op ≡ true → is_engine i ≡ true → is_on_elements i.op ≡ true
-unfolding is_engine
-engine_on_elements i built runs = on_elements i.op i.form built runs
 
 -- the program at pc, by what comes there
 pub stop_program : (mode : Mode) (c : Core) → next c ≡ Stop mode → program_at c ≡ None

@@ -1,25 +1,24 @@
 //! What is told of a question.
 ghost use Rattle.std.specs.Prelude.{◌≡◌, ◌+◌, [], true, length, IsTrue, OnOk};
-ghost use Rattle.rvv_meaning.specs.Vectors.{is_on_elements};
+ghost use Rattle.rvv_meaning.specs.Vectors.{is_computed};
+ghost use Rattle.vec_exec.specs.Programs.{is_engine};
 ghost use Rattle.vtype_cfg.specs.Settings.{is_valid, is_vill_or_supported};
 
 use crate::lines::Question;
 use micro_ir::{LineBuf, MicroBuf, listing};
-use rvv_decode::{VInstr, VOp, decode_v};
+use rvv_decode::{VInstr, decode_v};
 use std::alloc::{AllocError, Global};
 use std::fmt::Write;
-use vec_exec::{built, plan};
+use vec_exec::{built, engine, plan};
 use vtype_cfg::legal;
 
-// Whether an instruction is carried out by the program of a plan.
-#[tactic(auto, unfolding(rvv_meaning::specs::Operations::operation_for))]
+// Whether an instruction is built, and carried out by the program of a plan.
+#[tactic(auto, using(vec_exec::proofs::Computed::engine_computed))]
 fn is_planned(i: &VInstr) -> bool
-    ensures { result ≡ is_on_elements i.now.op }
+    ensures computed { result ≡ true → is_computed i.now.op ≡ true }
+    ensures engine { result ≡ true → is_engine i.now ≡ true }
 {
-    match i.op {
-        VOp::Config(_) | VOp::Memory(_) => false,
-        VOp::Opi(_) | VOp::Opm(_) => built(i),
-    }
+    engine(i) && built(i)
 }
 
 // The program as lines, behind a line of its length.

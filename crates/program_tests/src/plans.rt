@@ -1,6 +1,6 @@
 //! Vector words that are planned and carried out on registers of 64 bits.
 ghost use Rattle.std.specs.Prelude.{◌≡◌, true};
-ghost use Rattle.rvv_meaning.specs.Vectors.{is_on_elements};
+ghost use Rattle.rvv_meaning.specs.Vectors.{is_computed};
 
 use crate::chains::{Cost, Trial, Word, cost_in, cost_of};
 use micro_ir::MicroBuf;
@@ -311,7 +311,7 @@ static ROWS: [Row; 18] = [
 // Whether it is an operation of the table.
 #[tactic(auto, unfolding(rvv_meaning::specs::Operations::operation_for))]
 fn is_planned(op: VOp) -> bool
-    ensures { result ≡ true → is_on_elements op ≡ true }
+    ensures { result ≡ true → is_computed op ≡ true }
 {
     match op {
         VOp::Opi(OpiOp::Vadd | OpiOp::Vmseq | OpiOp::Vsll | OpiOp::Vsra | OpiOp::Vnsrl) => true,

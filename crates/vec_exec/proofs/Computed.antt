@@ -11,7 +11,7 @@ use Rattle.rvv_decode.specs.declared.instruction.VInstr.{VInstr}
 use Rattle.rvv_decode.specs.declared.instruction.VOp.{VOp}
 use Rattle.rvv_decode.specs.declared.instruction.VOp.TheVariants.{Opi, Opm, Config, Memory}
 use Rattle.rvv_meaning.specs.Operations.{operation_for}
-use Rattle.rvv_meaning.specs.Vectors.{is_computed}
+use Rattle.rvv_meaning.specs.Vectors.{is_built, is_computed}
 use Rattle.rvv_meaning.specs.Whole.{whole_for, makes_number}
 use Rattle.vec_exec.specs.Programs.{is_engine, is_engine_op, is_opi_engine, is_opm_engine}
 use Rattle.vec_exec.specs.Recipes.{recipe_for}
@@ -82,3 +82,15 @@ none-permutes i computed apart registers =
     (λ (some : is_some (operation_for i.op) ≡ true). false≢true (sym apart ∙ operation-runs i.op i.form some))
     (λ (none : is_some (operation_for i.op) ≡ false). none-moves i.op (sym (ap (λ (b : Bool). b || is_some (whole_for i.op)) none) ∙ computed) registers)
     (cases_Bool (is_some (operation_for i.op)))
+
+-- ---- what is built and a program carries out
+
+engine-by : (op : VOp) (form : Form) → is_built op ≡ true → is_engine_op op form ≡ true → is_computed op ≡ true
+engine-by (Opi op) form built runs = built
+engine-by (Opm op) form built runs = built
+engine-by (Config op) form built runs = absurd (false≢true runs)
+engine-by (Memory op) form built runs = absurd (false≢true runs)
+
+pub engine_computed : (i : VInstr) → is_built i.op ≡ true → is_engine i ≡ true → is_computed i.op ≡ true
+unfolding is_engine
+engine_computed i built runs = engine-by i.op i.form built runs
