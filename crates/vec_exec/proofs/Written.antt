@@ -34,7 +34,7 @@ use Rattle.rvv_meaning.specs.Operations.{log2}
 use Rattle.vtype_cfg.specs.declared.configuration.Cfg.{Cfg}
 use Rattle.vtype_cfg.specs.declared.vtype.Vtype.{Vtype}
 use Rattle.vec_exec.specs.declared.recipes.Listed.{Listed}
-use Rattle.vec_exec.specs.declared.recipes.Listed.TheVariants.{Bits, Sums, Truths, Choices, Shifts, Products, Roundings, Divisions, Copies, Halves}
+use Rattle.vec_exec.specs.declared.recipes.Listed.TheVariants.{Bits, Sums, Truths, Choices, Shifts, Products, Roundings, Averages, Saturations, Divisions, Copies, Halves}
 use Rattle.vec_exec.specs.declared.recipes.Recipe.{Recipe}
 use Rattle.vec_exec.specs.Recipes.{makes_bits, makes_halves, length_of}
 use Rattle.rvv_meaning.specs.Elementwise.{is_ones}
@@ -79,6 +79,8 @@ bits-no-halves (Truths kind) bits = refl
 bits-no-halves (Choices kind) bits = refl
 bits-no-halves (Shifts kind) bits = refl
 bits-no-halves (Products kind) bits = refl
+bits-no-halves (Saturations kind) bits = refl
+bits-no-halves (Averages kind sub) bits = refl
 bits-no-halves (Roundings right) bits = refl
 bits-no-halves (Divisions kind) bits = refl
 bits-no-halves Copies bits = refl
@@ -335,6 +337,8 @@ half-list-few (Truths kind) w mode halves most = absurd (false≢true halves)
 half-list-few (Choices kind) w mode halves most = absurd (false≢true halves)
 half-list-few (Shifts kind) w mode halves most = absurd (false≢true halves)
 half-list-few (Products kind) w mode halves most = absurd (false≢true halves)
+half-list-few (Saturations kind) w mode halves most = absurd (false≢true halves)
+half-list-few (Averages kind sub) w mode halves most = absurd (false≢true halves)
 half-list-few (Roundings right) w mode halves most = absurd (false≢true halves)
 half-list-few (Divisions kind) w mode halves most = absurd (false≢true halves)
 half-list-few Copies w mode halves most = absurd (false≢true halves)
