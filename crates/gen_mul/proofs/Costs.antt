@@ -68,7 +68,7 @@ rounds-sized n a b (suc j) some few h =
     (round-sized n a b (half_role (is_odd j)) (half_role (not (is_odd j))) j some few h (role-row (not (is_odd j)))))
     (omega arith) (omega arith) (omega arith) (omega arith)
 
-multiplying-sized : (n a b : ℕ) → 0 < n → n ≤ 31
+pub multiplying-sized : (n a b : ℕ) → 0 < n → n ≤ 31
     → Sized (2 + suc n * (15 * n + 25)) (2 + suc n * (3 * n + 13)) (suc n * (3 * n + 2)) (4 + suc n * (20 * n + 41)) (multiplying (suc n) a b)
 unfolding multiplying
 multiplying-sized n a b some few =
@@ -84,7 +84,7 @@ none-in = record { cost = refl; long = refl; rows = (omega arith, omega arith, t
 one-in : Sized 1 1 0 2 (above [] (0 ∷ []) carry_row 0 0 ∷ [])
 one-in = record { cost = refl; long = refl; rows = (omega arith, omega arith, tt) }
 
-correcting-sized : (n x y h out : ℕ) → out < 64 → Sized (15 * n + 12) (3 * n + 5) (2 * n) (20 * n + 17) (correcting (suc n) x y h out)
+pub correcting-sized : (n x y h out : ℕ) → out < 64 → Sized (15 * n + 12) (3 * n + 5) (2 * n) (20 * n + 17) (correcting (suc n) x y h out)
 unfolding correcting
 correcting-sized n x y h out low =
     let w = suc n in

@@ -34,7 +34,7 @@ floor-shift n k m h =
     (cases_lt (n / m) k)
 
 -- a negative number by a natural one
-times : (a m b : ℕ) → a < m → (pos a -ℤ pos m) *ℤ pos b ≡ pos (a * b) -ℤ pos (b * m)
+pub times : (a m b : ℕ) → a < m → (pos a -ℤ pos m) *ℤ pos b ≡ pos (a * b) -ℤ pos (b * m)
 times a m b l =
     let x : ℕ = m - a - 1 in
     let t : m ≡ a + suc x = omega arith in
@@ -52,7 +52,7 @@ mulhsu-whole w a b la lb =
     rw (le-ltb a (2 ^ (w - 1)) s, times a (2 ^ w) b la, floor-shift (a * b) b (2 ^ w) (pow_pos w)) (sym (low-shift w (a * b / 2 ^ w) b (omega arith))))
     (cases_lt a (2 ^ (w - 1)))
 
-below : (m a x : ℕ) → m ≡ a + suc x → pos a -ℤ pos m ≡ negsuc x
+pub below : (m a x : ℕ) → m ≡ a + suc x → pos a -ℤ pos m ≡ negsuc x
 below m a x e = omega (arith, ints)
 
 -- ---- the high half where both have signs
@@ -63,7 +63,7 @@ low-add x y m =
     let s : x + y ≡ x / m * m + (x % m + y) = omega arith in
     sym (ap (λ (z : ℕ). z % m) s ∙ mul-add-mod_self_right (x / m) m (x % m + y))
 
-low-past : (x y z m : ℕ) → x ≡ y + z * m → x % m ≡ y % m
+pub low-past : (x y z m : ℕ) → x ≡ y + z * m → x % m ≡ y % m
 low-past x y z m e = ap (λ (u : ℕ). u % m) e ∙ add-mul-mod_self_right y z m
 
 -- both negative

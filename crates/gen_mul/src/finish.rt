@@ -42,7 +42,7 @@ fn emit_correcting<W: Width>(buf: &mut MicroBuf, x: u8, y: u8, high: u8, out: u8
 }
 
 // Where the low half of the product stands.
-fn low_row<W: Width>() -> u8
+pub(crate) fn low_row<W: Width>() -> u8
     ensures role { result ≡ half_after W.BITS }
     ensures row { result < 64 }
 {
@@ -77,7 +77,7 @@ fn emit_taking<W: Width>(buf: &mut MicroBuf, addend: u8)
 }
 
 // Both corrections of the high half.
-fn emit_both<W: Width>(buf: &mut MicroBuf, a: u8, b: u8)
+pub(crate) fn emit_both<W: Width>(buf: &mut MicroBuf, a: u8, b: u8)
     requires a { IsOperandRow a }
     requires b { IsOperandRow b }
     requires room { correcting_length W.BITS + correcting_length W.BITS ≤ buf.old.spare }

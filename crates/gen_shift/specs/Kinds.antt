@@ -35,6 +35,13 @@ read_as Sra w a = signed w a
 abbrev pub rounded_value : Shift → (mode w l a b : ℕ) → ℕ
 rounded_value kind mode w l a b = low_int w (rounded mode (read_as kind w a) (low l b))
 
+-- without a sign, and with one
+abbrev pub ssrl_value : (mode w l a b : ℕ) → ℕ
+ssrl_value mode w l a b = low_int w (rounded mode (pos a) (low l b))
+
+abbrev pub ssra_value : (mode w l a b : ℕ) → ℕ
+ssra_value mode w l a b = low_int w (rounded mode (signed w a) (low l b))
+
 -- ---- shifts into a register
 
 abbrev pub shift_ops : Shift → (w l : ℕ) → Place → List MicroOp

@@ -1,15 +1,12 @@
 // A call for each kind: a row of the table of shifts, and the extension by a sign.
-ghost use Rattle.std.specs.Prelude.{◌≡◌, Bool, pos, ◌+◌, ◌-◌, ◌*◌, ◌/◌, ◌^◌, ◌<◌, ◌≤◌, ◌++◌};
+ghost use Rattle.std.specs.Prelude.{◌≡◌, Bool, ◌+◌, ◌-◌, ◌*◌, ◌/◌, ◌^◌, ◌<◌, ◌≤◌, ◌++◌};
 ghost use Rattle.bit_laws.specs.Numbers.{low};
-ghost use Rattle.bit_laws.specs.Rounding.{low_int, rounded};
-ghost use Rattle.bit_laws.specs.Signed.{signed};
 ghost use Rattle.micro_ir.specs.Kinds.{Realises};
 ghost use Rattle.micro_ir.specs.Measures.{counts, Measured};
 ghost use Rattle.micro_ir.specs.WorkRows.{IsOperandRow};
 ghost use Rattle.gen_shift.specs.declared.kinds.Shift.TheVariants.{Sll, Srl, Sra};
-ghost use Rattle.gen_shift.specs.Rows.{rounded_row, rounding_rows};
-ghost use Rattle.gen_shift.specs.Kinds.{signed_shifted, shift_ops, shift_counts, rounding_ops, rounding_counts, rounding_length, rounded_ops, rounded_counts, rounded_length, extension_ops};
-ghost use Rattle.gen_shift.specs.Laws.{LeavesValue, ExtendsSign};
+ghost use Rattle.gen_shift.specs.Kinds.{signed_shifted, ssrl_value, ssra_value, shift_ops, shift_counts, rounding_ops, rounding_counts, rounding_length, rounded_ops, rounded_counts, rounded_length, extension_ops};
+ghost use Rattle.gen_shift.specs.Laws.{LeavesRounded, ExtendsSign};
 
 use crate::kinds::Shift;
 use crate::lists::emit_shift;
@@ -80,7 +77,7 @@ pub fn emit_ssrl<W: Width>(buf: &mut MicroBuf, at: &Place)
     ensures ops { buf.new.ops ≡ buf.old.ops ++ rounded_ops Srl W.BITS W.LOG at.now }
     ensures spare { buf.new.spare + rounded_length Srl at.now.mode W.BITS W.LOG ≡ buf.old.spare }
     ensures realises { (reads : Bool) → Realises W.BITS at.now.to reads
-        (λ n c. low_int W.BITS (rounded at.now.mode (pos (n at.now.a)) (low W.LOG (n at.now.b))))
+        (λ n c. ssrl_value at.now.mode W.BITS W.LOG (n at.now.a) (n at.now.b))
         (rounded_ops Srl W.BITS W.LOG at.now) }
     ensures cost { Measured (rounded_counts Srl at.now.mode W.BITS W.LOG)
         (rounded_length Srl at.now.mode W.BITS W.LOG) (rounded_ops Srl W.BITS W.LOG at.now) }
@@ -99,7 +96,7 @@ pub fn emit_ssra<W: Width>(buf: &mut MicroBuf, at: &Place)
     ensures ops { buf.new.ops ≡ buf.old.ops ++ rounded_ops Sra W.BITS W.LOG at.now }
     ensures spare { buf.new.spare + rounded_length Sra at.now.mode W.BITS W.LOG ≡ buf.old.spare }
     ensures realises { (reads : Bool) → Realises W.BITS at.now.to reads
-        (λ n c. low_int W.BITS (rounded at.now.mode (signed W.BITS (n at.now.a)) (low W.LOG (n at.now.b))))
+        (λ n c. ssra_value at.now.mode W.BITS W.LOG (n at.now.a) (n at.now.b))
         (rounded_ops Sra W.BITS W.LOG at.now) }
     ensures cost { Measured (rounded_counts Sra at.now.mode W.BITS W.LOG)
         (rounded_length Sra at.now.mode W.BITS W.LOG) (rounded_ops Sra W.BITS W.LOG at.now) }
@@ -117,9 +114,7 @@ pub fn emit_srl_raw<W: Width>(buf: &mut MicroBuf, at: &Place)
     requires room { rounding_length Srl at.now.mode W.BITS W.LOG ≤ buf.old.spare }
     ensures ops { buf.new.ops ≡ buf.old.ops ++ rounding_ops Srl W.BITS W.LOG at.now }
     ensures spare { buf.new.spare + rounding_length Srl at.now.mode W.BITS W.LOG ≡ buf.old.spare }
-    ensures leaves { LeavesValue W.BITS (rounded_row at.now.mode W.LOG) rounding_rows
-        (λ n. low_int W.BITS (rounded at.now.mode (pos (n at.now.a)) (low W.LOG (n at.now.b))))
-        (rounding_ops Srl W.BITS W.LOG at.now) }
+    ensures leaves { LeavesRounded Srl W.BITS W.LOG at.now }
     ensures cost { Measured (rounding_counts Srl at.now.mode W.BITS W.LOG)
         (rounding_length Srl at.now.mode W.BITS W.LOG) (rounding_ops Srl W.BITS W.LOG at.now) }
 {
@@ -136,9 +131,7 @@ pub fn emit_sra_raw<W: Width>(buf: &mut MicroBuf, at: &Place)
     requires room { rounding_length Sra at.now.mode W.BITS W.LOG ≤ buf.old.spare }
     ensures ops { buf.new.ops ≡ buf.old.ops ++ rounding_ops Sra W.BITS W.LOG at.now }
     ensures spare { buf.new.spare + rounding_length Sra at.now.mode W.BITS W.LOG ≡ buf.old.spare }
-    ensures leaves { LeavesValue W.BITS (rounded_row at.now.mode W.LOG) rounding_rows
-        (λ n. low_int W.BITS (rounded at.now.mode (signed W.BITS (n at.now.a)) (low W.LOG (n at.now.b))))
-        (rounding_ops Sra W.BITS W.LOG at.now) }
+    ensures leaves { LeavesRounded Sra W.BITS W.LOG at.now }
     ensures cost { Measured (rounding_counts Sra at.now.mode W.BITS W.LOG)
         (rounding_length Sra at.now.mode W.BITS W.LOG) (rounding_ops Sra W.BITS W.LOG at.now) }
 {

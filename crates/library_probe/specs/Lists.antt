@@ -1,5 +1,5 @@
 -- The list of a kind.
-use Rattle.std.specs.Prelude.{ℕ, List}
+use Rattle.std.specs.Prelude.{ℕ, false, List}
 use Rattle.micro_ir.specs.declared.op.MicroOp.{MicroOp}
 use Rattle.micro_ir.specs.declared.place.Place.{Place}
 use Rattle.micro_ir.specs.Steps.{Step, micros}
@@ -92,8 +92,8 @@ abbrev pub shifted_steps : Shifted → (w l : ℕ) → Place → List Step
 shifted_steps Sll w l at = shift_steps ShiftSll w l at.a at.b at.to
 shifted_steps Srl w l at = shift_steps ShiftSrl w l at.a at.b at.to
 shifted_steps Sra w l at = shift_steps ShiftSra w l at.a at.b at.to
-shifted_steps SrlRaw w l at = shifting ShiftSrl w l at.a at.b
-shifted_steps SraRaw w l at = shifting ShiftSra w l at.a at.b
+shifted_steps SrlRaw w l at = shifting ShiftSrl false w l at.a at.b
+shifted_steps SraRaw w l at = shifting ShiftSra false w l at.a at.b
 
 -- the bits of the numbers that are extended, and the steps of that
 abbrev pub source_bits : Source → ℕ
