@@ -11,7 +11,7 @@ use Rattle.rvv_decode.specs.declared.instruction.VInstr.{VInstr}
 use Rattle.vtype_cfg.specs.declared.configuration.Cfg.{Cfg}
 use Rattle.rvv_meaning.specs.Elementwise.{is_ones}
 use Rattle.vec_exec.specs.declared.recipes.Listed.{Listed}
-use Rattle.vec_exec.specs.declared.recipes.Listed.TheVariants.{Bits, Sums, Truths, Choices, Shifts, Products, Roundings, Averages, Saturations, Divisions, Copies, Halves}
+use Rattle.vec_exec.specs.declared.recipes.Listed.TheVariants.{Bits, Sums, Truths, Choices, Shifts, Products, Fractions, Roundings, Averages, Saturations, Divisions, Copies, Halves}
 use Rattle.vec_exec.specs.declared.recipes.Recipe.{Recipe}
 use Rattle.frame_laws.specs.Classes.Halved.{Pair, Lists, halves_row, half_list, halves_list}
 use Rattle.frame_laws.specs.Classes.Operands.{laid_out}
@@ -37,6 +37,7 @@ list-keep (Truths kind) w mode a b d to quiet = micros-keep w _
 list-keep (Choices kind) w mode a b d to quiet = micros-keep w _
 list-keep (Shifts kind) w mode a b d to quiet = micros-keep w _
 list-keep (Products kind) w mode a b d to quiet = micros-keep w _
+list-keep Fractions w mode a b d to quiet = absurd (false≢true (sym quiet))
 list-keep (Saturations kind) w mode a b d to quiet = absurd (false≢true (sym quiet))
 list-keep (Averages kind sub) w mode a b d to quiet = micros-keep w _
 list-keep (Roundings right) w mode a b d to quiet = micros-keep w _

@@ -17,7 +17,7 @@ use Rattle.frame_laws.specs.Masks.Programs as masks
 use Rattle.frame_meaning.specs.declared.Order.{Order}
 use Rattle.frame_meaning.specs.Shapes.{width_in, value_by, value_in}
 use Rattle.vec_exec.specs.declared.recipes.Listed.{Listed}
-use Rattle.vec_exec.specs.declared.recipes.Listed.TheVariants.{Bits, Sums, Truths, Choices, Shifts, Products, Roundings, Averages, Saturations, Divisions, Copies, Halves}
+use Rattle.vec_exec.specs.declared.recipes.Listed.TheVariants.{Bits, Sums, Truths, Choices, Shifts, Products, Fractions, Roundings, Averages, Saturations, Divisions, Copies, Halves}
 use Rattle.row_views.specs.Clips.{ClipsWhere}
 use Rattle.vec_exec.specs.Recipes.{makes_bits, makes_halves, tells_clips, takes_row, value_of, list_of, Computes}
 
@@ -51,6 +51,7 @@ bits-quiet (Truths kind) bits = refl
 bits-quiet (Choices kind) bits = refl
 bits-quiet (Shifts kind) bits = refl
 bits-quiet (Products kind) bits = refl
+bits-quiet Fractions bits = absurd (false≢true bits)
 bits-quiet (Saturations kind) bits = absurd (false≢true bits)
 bits-quiet (Averages kind sub) bits = refl
 bits-quiet (Roundings right) bits = refl
@@ -65,6 +66,7 @@ halves-quiet (Truths kind) halves = refl
 halves-quiet (Choices kind) halves = refl
 halves-quiet (Shifts kind) halves = refl
 halves-quiet (Products kind) halves = refl
+halves-quiet Fractions halves = absurd (false≢true halves)
 halves-quiet (Saturations kind) halves = absurd (false≢true halves)
 halves-quiet (Averages kind sub) halves = refl
 halves-quiet (Roundings right) halves = refl

@@ -26,7 +26,7 @@ use Rattle.frame_meaning.specs.Shapes.{source_in_vs1, narrow_in_vs1, class_in}
 use Rattle.frame_meaning.specs.Halves.{half_count, half_in_vs1}
 use Rattle.frame_meaning.proofs.Halves.{HalvesThere, halves-there}
 use Rattle.vec_exec.specs.declared.recipes.Listed.{Listed}
-use Rattle.vec_exec.specs.declared.recipes.Listed.TheVariants.{Bits, Sums, Truths, Choices, Shifts, Products, Roundings, Averages, Saturations, Divisions, Copies, Halves}
+use Rattle.vec_exec.specs.declared.recipes.Listed.TheVariants.{Bits, Sums, Truths, Choices, Shifts, Products, Fractions, Roundings, Averages, Saturations, Divisions, Copies, Halves}
 use Rattle.vec_exec.specs.declared.recipes.Recipe.{Recipe}
 use Rattle.vec_exec.specs.Recipes.{takes_laid, uses_wide_rows, FitsRows}
 use Rattle.vec_exec.specs.Programs.{width_of, count_of, IsLayable, IsPlaced, IsMaskPlaced, IsHalfPlaced}
@@ -89,6 +89,7 @@ plain-rows (Truths kind) a b laid first second = (operand-row a first, operand-r
 plain-rows (Choices kind) a b laid first second = (operand-row a first, operand-row b second)
 plain-rows (Shifts kind) a b laid first second = (operand-row a first, operand-row b second)
 plain-rows (Products kind) a b laid first second = (operand-row a first, operand-row b second)
+plain-rows Fractions a b laid first second = (operand-row a first, operand-row b second)
 plain-rows (Saturations kind) a b laid first second = (operand-row a first, operand-row b second)
 plain-rows (Averages kind sub) a b laid first second = (operand-row a first, operand-row b second)
 plain-rows (Roundings right) a b laid first second = (operand-row a first, operand-row b second)
@@ -103,6 +104,7 @@ wide-rows (Truths kind) a b laid free first second = (first, second)
 wide-rows (Choices kind) a b laid free first second = (first, second)
 wide-rows (Shifts kind) a b laid free first second = (first, second)
 wide-rows (Products kind) a b laid free first second = (first, second)
+wide-rows Fractions a b laid free first second = (first, second)
 wide-rows (Saturations kind) a b laid free first second = (first, second)
 wide-rows (Averages kind sub) a b laid free first second = (first, second)
 wide-rows (Roundings right) a b laid free first second = (first, second)
@@ -118,6 +120,7 @@ laid-rows (Truths kind) b laid second = absurd (false≢true laid)
 laid-rows (Choices kind) b laid second = absurd (false≢true laid)
 laid-rows (Shifts kind) b laid second = absurd (false≢true laid)
 laid-rows (Products kind) b laid second = absurd (false≢true laid)
+laid-rows Fractions b laid second = absurd (false≢true laid)
 laid-rows (Saturations kind) b laid second = absurd (false≢true laid)
 laid-rows (Averages kind sub) b laid second = absurd (false≢true laid)
 laid-rows (Roundings right) b laid second = absurd (false≢true laid)
@@ -145,6 +148,7 @@ fits-small (Truths kind) a b fit = both-small a b fit
 fits-small (Choices kind) a b fit = both-small a b fit
 fits-small (Shifts kind) a b fit = both-small a b fit
 fits-small (Products kind) a b fit = both-small a b fit
+fits-small Fractions a b fit = both-small a b fit
 fits-small (Saturations kind) a b fit = both-small a b fit
 fits-small (Averages kind sub) a b fit = both-small a b fit
 fits-small (Roundings right) a b fit = both-small a b fit

@@ -15,7 +15,7 @@ use gen_arith::{Choice, Sum, Truth, arith_length_law, emit_choice, emit_sum, emi
 use gen_div::{Division, division_length_law, emit_division};
 use gen_fixed::{Average, Saturating, emit_average, emit_saturating, fixed_length_law};
 use gen_logic::{Logic, emit_logic, logic_length_law};
-use gen_mul::{Product, emit_product, product_length_law};
+use gen_mul::{Product, emit_product, emit_smul, product_length_law};
 use gen_shift::{Shift, emit_rounded, emit_shift, shift_length_law};
 use micro_ir::{MicroBuf, Place, emit_commit};
 use rvv_decode::{OpiOp, OpmOp, VOp};
@@ -27,7 +27,7 @@ pub(crate) enum Right {
     Sign,
 }
 
-/// A list: a generator's table, and a kind of it, of averages with whether they are of a difference; a shift to the right that rounds; a copy of what is laid out; or a shift at twice the width of the elements,
+/// A list: a generator's table, and a kind of it, of averages with whether they are of a difference; a product of fractions; a shift to the right that rounds; a copy of what is laid out; or a shift at twice the width of the elements,
 /// which computes one half of a register at a time.
 #[derive(Clone, Copy, PartialEq, Eq)]
 pub(crate) enum Listed {
@@ -37,6 +37,7 @@ pub(crate) enum Listed {
     Choices(Choice),
     Shifts(Shift),
     Products(Product),
+    Fractions,
     Averages(Average, bool),
     Saturations(Saturating),
     Roundings(Right),
@@ -202,6 +203,7 @@ fn opi_recipe(op: OpiOp) -> Option<Recipe>
         OpiOp::Vsadd => of_two(Listed::Saturations(Saturating::Sadd)),
         OpiOp::Vssubu => of_two(Listed::Saturations(Saturating::Ssubu)),
         OpiOp::Vssub => of_two(Listed::Saturations(Saturating::Ssub)),
+        OpiOp::Vsmul => of_two(Listed::Fractions),
         OpiOp::Vssrl => of_unsigned(Listed::Roundings(Right::Zeros)),
         OpiOp::Vssra => of_unsigned(Listed::Roundings(Right::Sign)),
         _ => return None,
@@ -329,6 +331,7 @@ pub(crate) fn emit_list<W: Width>(list: Listed, at: &Place, buf: &mut MicroBuf)
             emit_average::<W>(buf, &with, kind);
         }
         Listed::Saturations(kind) => emit_saturating::<W>(buf, at, kind),
+        Listed::Fractions => emit_smul::<W>(buf, at),
         Listed::Products(kind) => emit_product::<W>(buf, at, kind),
         Listed::Divisions(kind) => emit_division::<W>(buf, at, kind),
         Listed::Copies => emit_commit(buf, at.a, at.to),

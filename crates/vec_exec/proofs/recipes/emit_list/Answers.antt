@@ -144,6 +144,20 @@ pub returns-in-Averages-clause-computes : goal.returns-in-Averages-clause-comput
 unfolding Computes list_of
 returns-in-Averages-clause-computes g c = rw c.in-Averages.is (rw c.with_difference-with.ensures at (c.emit_average.ensures.realises false))
 
+pub emit_smul-requires-clause-a : goal.emit_smul-requires-clause-a
+emit_smul-requires-clause-a g c = let rows : FitsRows c.args.list c.args.at.now.a c.args.at.now.b = c.requires.rows in (rw c.in-Fractions.is at rows).0
+
+pub emit_smul-requires-clause-b : goal.emit_smul-requires-clause-b
+emit_smul-requires-clause-b g c = let rows : FitsRows c.args.list c.args.at.now.a c.args.at.now.b = c.requires.rows in (rw c.in-Fractions.is at rows).1
+
+pub returns-in-Fractions-clause-computes : goal.returns-in-Fractions-clause-computes
+unfolding Computes list_of
+returns-in-Fractions-clause-computes g c = rw c.in-Fractions.is (c.emit_smul.ensures.realises false)
+
+pub returns-in-Fractions-clause-tells : goal.returns-in-Fractions-clause-tells
+unfolding TellsClips list_of
+returns-in-Fractions-clause-tells g c = rw c.in-Fractions.is c.emit_smul.ensures.clips
+
 pub emit_commit-requires-clause-row : goal.emit_commit-requires-clause-row
 emit_commit-requires-clause-row g c = let rows : FitsRows c.args.list c.args.at.now.a c.args.at.now.b = c.requires.rows in
     let is = (rw c.in-Copies.is at rows).0 in rw is (omega arith)
