@@ -1,5 +1,5 @@
 -- The flag of a program: it is set exactly where an active element is clipped.
-use Rattle.std.proofs.Common.{◌≡◌, ◌≢◌, ℕ, zero, suc, ◌+◌, ◌*◌, ◌/◌, ◌<◌, ◌≤◌, Bool, true, false, cond, ◌&&◌, ◌||◌, not, ltb, leb, List, [], ◌∷◌, ◌++◌, refl, sym, ◌∙◌, ap, arith, ◌⊎◌, inl, ⊎_elim}
+use Rattle.std.proofs.Common.{◌≡◌, ℕ, zero, suc, ◌+◌, ◌*◌, ◌/◌, ◌<◌, ◌≤◌, Bool, true, false, cond, ◌&&◌, ◌||◌, not, ltb, leb, List, [], ◌∷◌, ◌++◌, refl, sym, ◌∙◌, ap, arith, ◌⊎◌, inl, ⊎_elim}
 use Rattle.std.proofs.lemmas.Bool.{cases_Bool, and_parts, ltb-true, false≢true}
 use Rattle.std.proofs.lemmas.Nat.{div-mul-add}
 use Rattle.std.proofs.Math.Nat.{mul-le-mul_right}
@@ -16,12 +16,12 @@ use Rattle.micro_ir.specs.Replay.{replay, effect, clips, all_keep_control}
 use Rattle.micro_ir.specs.Steps.{micros}
 use Rattle.micro_ir.specs.WorkRows.{mask_row, free_row}
 use Rattle.micro_ir.proofs.Keeping.{micros-keep}
-use Rattle.micro_ir.proofs.Lists.{replay-append, clips-append, clips-none, or_false}
+use Rattle.micro_ir.proofs.Lists.{clips-append, clips-none, or_false}
 use Rattle.micro_ir.proofs.Lift.{replay-columns}
 use Rattle.frame_laws.specs.Shapes.{Shape, Bounds, Bounded, first_of, is_prestart}
 use Rattle.frame_laws.specs.Programs.{active_window, mask_window, fill, one_register, first_registers, program}
 use Rattle.frame_laws.specs.Meaning.{place_in}
-use Rattle.frame_laws.specs.Realising.{Splatted, Windowed}
+use Rattle.frame_laws.specs.Realising.{Splatted}
 use Rattle.frame_laws.specs.Laws.{SameAt, Legal, AllRealised}
 use Rattle.frame_laws.specs.Clips.{Clipped, clips_at, TellsClips, AllTellClips, DependsOn, ClipLaw}
 use Rattle.frame_laws.proofs.Registers.{HoldsFirst, held, none_held, group_runs, written_else, splat-stands, splat-bits}
@@ -60,9 +60,9 @@ register-elements w vlen columns pos lanes long =
 windows-clip : (i : Shape) (b : Bounds) (g : ℕ) (s : Slices) → clips (mask_window i b g) s ≡ false
 unfolding clips
 windows-clip i b g s = elim i.reads as (λ x. clips (cond x (Window mask_row i.width (first_of i g) b.from i.len true ∷ []) []) s ≡ false) [
-      | true ↦ refl
-      | false ↦ refl
-    ]
+  | true ↦ refl
+  | false ↦ refl
+]
 
 fill-keep : (i : Shape) (b : Bounds) (g : ℕ) → all_keep_control (fill i b g) ≡ true
 fill-keep i b g =
@@ -115,11 +115,11 @@ first-clip i b source columns body clipped v s legal bounded cols real tells dep
       one-clip i b n (body n) t,
       tells n le s2 vl2 splatted2 (windows-stand i b n t),
       any-same per (λ p. is_within b.from i.len i.masked (bit_in s2 0) (n * per + p) && clipped (bit_in s2) (n * per + p)) (λ p. clips_at i clipped v (n * per + p)) (λ p l.
-      let here = is_within b.from i.len i.masked (bit_in s2 0) (n * per + p) in
-      where_active here (clipped (bit_in s2) (n * per + p)) (clipped v (n * per + p)) (λ t. depends n (bit_in s2) v p le l (within-len b.from i.len i.masked (bit_in s2 0) (n * per + p) t) sources)
-      ∙ ap (λ (x : Bool). x && clipped v (n * per + p))
-      (within_same b.from i.len i.masked (bit_in s2 0) (v 0) (n * per + p) (λ m. let nz : 0 < i.vd = f.not_mask (rw m refl) in seen 0 (n * per + p) (omega arith) (omega arith) (inl nz))
-      ∙ sym (active-within i b (v 0) (n * per + p) bounded))),
+          let here = is_within b.from i.len i.masked (bit_in s2 0) (n * per + p) in
+          where_active here (clipped (bit_in s2) (n * per + p)) (clipped v (n * per + p)) (λ t. depends n (bit_in s2) v p le l (within-len b.from i.len i.masked (bit_in s2 0) (n * per + p) t) sources)
+          ∙ ap (λ (x : Bool). x && clipped v (n * per + p))
+          (within_same b.from i.len i.masked (bit_in s2 0) (v 0) (n * per + p) (λ m. let nz : 0 < i.vd = f.not_mask (rw m refl) in seen 0 (n * per + p) (omega arith) (omega arith) (inl nz))
+          ∙ sym (active-within i b (v 0) (n * per + p) bounded))),
     ) (sym (rw e (any_cat (n * per) per (clips_at i clipped v))))
   where
     whole-elements : (i : Shape) (columns : ℕ) → 0 < i.width → 32 / i.width * i.width ≡ 32 → i.vlen ≡ 32 * columns → i.vlen / i.width * i.width ≡ i.vlen

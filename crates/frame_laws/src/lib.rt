@@ -10,11 +10,12 @@ mod mask_laws;
 mod rows;
 
 pub use class_laws::{
-    compared_bytes_law, halved_bytes_law, halved_clip_law, halved_law, plain_bytes_law, plain_clip_law, plain_law,
+    compared_bytes_law, halved_bytes_law, halved_clip_law, halved_law, plain_bytes_law,
+    plain_clip_law, plain_law,
 };
 pub use group_laws::{
-    bits_law, bytes_law, clip_law, even_tally_law, frame_law, group_law, length_law, range_law, tally_law,
-    usual_bounds_law,
+    bits_law, bytes_law, clip_law, even_tally_law, frame_law, group_law, length_law, range_law,
+    tally_law, usual_bounds_law,
 };
 pub use mask_laws::{mask_frame_law, mask_law, mask_length_law, mask_range_law, mask_tally_law};
 pub use rows::HALVES_ROW;

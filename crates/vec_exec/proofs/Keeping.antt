@@ -2,7 +2,7 @@
 use Rattle.std.proofs.Common.{◌≡◌, ℕ, ◌+◌, ◌*◌, Bool, true, false, cond, List, [], ◌∷◌, ◌++◌, zero, suc, refl, sym}
 use Rattle.std.proofs.lemmas.Bool.{false≢true}
 use Rattle.micro_ir.specs.declared.op.MicroOp.{MicroOp}
-use Rattle.micro_ir.specs.declared.op.MicroOp.TheVariants.{PackMask, Narrow}
+use Rattle.micro_ir.specs.declared.op.MicroOp.TheVariants.{PackMask}
 use Rattle.micro_ir.specs.Replay.{all_keep_control}
 use Rattle.micro_ir.specs.WorkRows.{active_row, truth_row}
 use Rattle.micro_ir.proofs.Lists.{keep-append}
@@ -13,7 +13,7 @@ use Rattle.rvv_meaning.specs.Elementwise.{is_ones}
 use Rattle.vec_exec.specs.declared.recipes.Listed.{Listed}
 use Rattle.vec_exec.specs.declared.recipes.Listed.TheVariants.{Bits, Sums, Truths, Choices, Shifts, Products, Fractions, Roundings, Averages, Saturations, Divisions, Copies, Halves}
 use Rattle.vec_exec.specs.declared.recipes.Recipe.{Recipe}
-use Rattle.frame_laws.specs.Classes.Halved.{Pair, Lists, halves_row, half_list, halves_list}
+use Rattle.frame_laws.specs.Classes.Halved.{halves_row, halves_list}
 use Rattle.frame_laws.specs.Classes.Operands.{laid_out}
 use Rattle.frame_laws.proofs.Classes.Spreading.{laid-keep}
 use Rattle.frame_laws.proofs.Classes.HalvedClips.{halves-keep}

@@ -9,11 +9,9 @@ use Rattle.micro_ir.specs.WorkRows.{scalar_row}
 use Rattle.micro_ir.proofs.Valued.{realises-same}
 use Rattle.rvv_decode.specs.declared.instruction.VInstr.{VInstr}
 use Rattle.vtype_cfg.specs.declared.configuration.Cfg.{Cfg}
-use Rattle.vtype_cfg.specs.Classes as classes
 use Rattle.rvv_meaning.specs.Operations.{Operation, reads_mask}
 use Rattle.frame_laws.specs.Classes.Halved.{LeavesLow}
 use Rattle.frame_laws.proofs.Classes.Halves.{leaves-low}
-use Rattle.frame_laws.specs.Masks.Programs as masks
 use Rattle.frame_meaning.specs.declared.Order.{Order}
 use Rattle.frame_meaning.specs.Shapes.{width_in, value_by, value_in}
 use Rattle.vec_exec.specs.declared.recipes.Listed.{Listed}

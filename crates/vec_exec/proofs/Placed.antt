@@ -20,7 +20,6 @@ use Rattle.legal_groups.proofs.Laws.{legal_group_law}
 use Rattle.frame_laws.specs.Classes.Operands.{narrow, row_of, IsReadable}
 use Rattle.frame_laws.specs.Classes.Plain.{Operands}
 use Rattle.frame_laws.specs.Shapes.{Shape}
-use Rattle.frame_laws.specs.Masks.Programs as masks
 use Rattle.frame_meaning.specs.declared.Order.TheVariants.{Half, Quarter}
 use Rattle.frame_meaning.specs.Shapes.{source_in_vs1, narrow_in_vs1, class_in}
 use Rattle.frame_meaning.specs.Halves.{half_count, half_in_vs1}

@@ -1,60 +1,48 @@
 -- What legality says of the rows of an instruction; and what its program does and costs.
-use Rattle.std.proofs.Common.{◌≡◌, inl, inr, ℕ, zero, suc, ◌+◌, ◌*◌, ◌/◌, ◌<◌, ◌≤◌, Bool, true, false, ◌&&◌, not, cond, List, ◌++◌, Some, refl, sym, ◌∙◌, ap, subst, arith, ⊎_elim}
+use Rattle.std.proofs.Common.{◌≡◌, inl, inr, ℕ, ◌+◌, ◌*◌, ◌/◌, ◌<◌, ◌≤◌, true, false, cond, List, Some, refl, sym, ◌∙◌, subst, arith, ⊎_elim}
 use Rattle.std.specs.Prelude.{IsTrue}
 use Rattle.std.proofs.lemmas.Bool.{cases_Bool}
 use Rattle.bit_rows.specs.Slices.{Slices, blank}
 use Rattle.cam_chain.specs.Views.{registers_of}
 use Rattle.gen_div.specs.Rows.{IsSignedRow}
-use Rattle.gen_shift.specs.Rows.{shift_rows, shifted_row}
 use Rattle.micro_ir.specs.declared.op.MicroOp.{MicroOp}
-use Rattle.micro_ir.specs.Kinds.{Realises}
 use Rattle.micro_ir.specs.Measures.{Measured}
-use Rattle.micro_ir.specs.Replay.{replay, clips, tally, all_keep_control, AllInRange}
+use Rattle.micro_ir.specs.Replay.{replay, clips, tally, AllInRange}
 use Rattle.micro_ir.specs.WorkRows.{result_row, left_row}
-use Rattle.micro_ir.proofs.Lists.{clips-none}
-use Rattle.micro_ir.proofs.Valued.{tells-same}
-use Rattle.row_views.specs.Clips.{ClipsWhere}
 use Rattle.rvv_decode.specs.declared.instruction.VInstr.{VInstr}
 use Rattle.vtype_cfg.specs.declared.configuration.Cfg.{Cfg}
 use Rattle.vtype_cfg.specs.Settings.{is_valid}
-use Rattle.vtype_cfg.specs.Classes.{class_of, compare, narrowing}
-use Rattle.vtype_cfg.specs.Classes as classes
 use Rattle.vtype_cfg.specs.Legality.{is_legal}
 use Rattle.vtype_cfg.proofs.Lengths.{vlen_from, vlen_words}
 use Rattle.legal_groups.specs.Facts.{IsElementWidth, registers_for, group_count, GroupWritten, MaskGroups}
 use Rattle.legal_groups.proofs.Groups.{legal_compare_law}
-use Rattle.rvv_meaning.specs.Elementwise.{Elementwise, registers_after, clips_below, clips as clips_elements}
-use Rattle.rvv_meaning.specs.Operations.{Operation, operation_for, on_elements, elements_at, reads_mask, log2}
-use Rattle.frame_laws.specs.Classes.Operands.{narrow, row_of}
-use Rattle.frame_laws.specs.Classes.Plain.{Value, with_operands, IsPlain, AllCompute, AllClip}
-use Rattle.frame_laws.specs.Classes.Halved.{AllLeave}
-use Rattle.frame_laws.specs.Classes.Compared.{AllTell}
-use Rattle.frame_laws.specs.Programs.{program, first_registers, one_register}
-use Rattle.frame_laws.specs.Shapes.{Shape, usual_bounds}
-use Rattle.frame_laws.specs.Masks.Programs as masks
+use Rattle.rvv_meaning.specs.Elementwise.{registers_after, clips as clips_elements}
+use Rattle.rvv_meaning.specs.Operations.{Operation, operation_for, on_elements, elements_at, reads_mask}
+use Rattle.frame_laws.specs.Classes.Operands.{row_of}
+use Rattle.frame_laws.specs.Classes.Plain.{Value, with_operands, IsPlain}
+use Rattle.frame_laws.specs.Shapes.{Shape}
 use Rattle.frame_meaning.specs.declared.Order.{Order}
 use Rattle.frame_meaning.specs.declared.Order.TheVariants.{Straight, Reversed, Second, Exchanged, Widening, WideSource, Half, Quarter}
 use Rattle.frame_meaning.specs.declared.Signs.{Signs}
 use Rattle.frame_meaning.specs.Realising.{RealisesInstruction}
-use Rattle.frame_meaning.specs.Shapes.{signs_of, scalar_of, width_in, count_in, class_in, operands_in, value_by, value_in, elements_in, shape_in, body_in, program_in}
-use Rattle.frame_meaning.specs.Clips.{clips_by, clips_in}
+use Rattle.frame_meaning.specs.Shapes.{signs_of, width_in, count_in, class_in, operands_in, value_in, elements_in, shape_in}
 use Rattle.frame_meaning.specs.Laws.{Runs}
 use Rattle.frame_meaning.specs.Costs.{ElementsMeasured}
-use Rattle.frame_meaning.specs.Halves.{half_count, half_operands, half_scalar, half_value_in, half_elements, half_shape, half_body, half_program_in, IsOfHalves}
-use Rattle.frame_meaning.specs.Masks.{IsTruth, truth_in, compare_operands, compare_shape, compare_program, CompareMeasured}
+use Rattle.frame_meaning.specs.Halves.{half_elements, half_shape}
+use Rattle.frame_meaning.specs.Masks.{compare_operands, CompareMeasured}
 use Rattle.frame_meaning.proofs.Instructions.{facts-of, is-plain, elements_meaning_law, elements_cost_law}
 use Rattle.frame_meaning.proofs.Clips.{elements_clip_law}
 use Rattle.frame_meaning.proofs.Halves.{halves_meaning_law, halves_cost_law}
 use Rattle.frame_meaning.proofs.Masks.{compare_meaning_law, compare_cost_law}
 use Rattle.vec_exec.specs.declared.recipes.Listed.{Listed}
 use Rattle.vec_exec.specs.declared.recipes.Recipe.{Recipe}
-use Rattle.vec_exec.specs.Recipes.{recipe_for, makes_bits, makes_halves, takes_row, takes_laid, uses_wide_rows, value_of, truth_of, tells_clips, clips_of, counts_of, length_of, Computes, TellsClips}
-use Rattle.vec_exec.specs.Programs.{reads, list_for, width_of, count_of, kind_list, truth_list, wide_lists, body_counts, body_length, half_counts, half_length, element_program, mask_program, half_program, register_list, registers_list, mask_register_list, mask_registers_list, half_register_list, half_registers_list, mask_fill_list, scalar_list, IsMade, IsMaskMade, IsHalfMade, prog, program_by, cost, cost_by}
+use Rattle.vec_exec.specs.Recipes.{recipe_for, makes_bits, makes_halves, takes_laid, uses_wide_rows, truth_of, tells_clips, counts_of, length_of}
+use Rattle.vec_exec.specs.Programs.{list_for, width_of, count_of, kind_list, truth_list, wide_lists, body_counts, body_length, half_counts, half_length, element_program, mask_program, half_program, IsMade, IsMaskMade, IsHalfMade, prog, program_by, cost, cost_by}
 use Rattle.vec_exec.proofs.Keeping.{elements-keep, mask-keep, halves-keep-program}
-use Rattle.vec_exec.proofs.Fits.{never, Traits, takes_one_laid, has_wide_rows, Means, Unmasked, Clipping, Fits}
-use Rattle.vec_exec.proofs.Placed.{valid-setting, valid-length, valid-mode, valid-short, no-bit, second-row, wide-row, compared-row, operand-row, plain-rows, wide-rows, laid-rows, operand-small, fits-small, layable, second-layable, wide-layable, Rows, Plans, MaskPlans, HalfPlans, source-half, source-quarter, half-legal, half-wide, half-planned}
-use Rattle.vec_exec.proofs.Listing.{lists-compute, leaves-same, clips-same, bits-quiet, halves-quiet, spared}
-use Rattle.vec_exec.proofs.Chosen.{bits-list, class, clip-told, computed, elements-list, first, free-for, half-class, halves-list, laid-for, leaves-all, mask-class, mask-laid, of-halves, quiet-clips, signs, takes, tells-for, told, truth}
+use Rattle.vec_exec.proofs.Fits.{takes_one_laid, has_wide_rows, Clipping, Fits}
+use Rattle.vec_exec.proofs.Placed.{valid-setting, valid-length, valid-mode, valid-short, second-row, wide-row, compared-row, operand-row, plain-rows, wide-rows, laid-rows, operand-small, fits-small, layable, second-layable, wide-layable, Rows, Plans, MaskPlans, HalfPlans, source-half, source-quarter, half-legal, half-wide, half-planned}
+use Rattle.vec_exec.proofs.Listing.{bits-quiet, halves-quiet}
+use Rattle.vec_exec.proofs.Chosen.{bits-list, class, clip-told, computed, elements-list, free-for, half-class, halves-list, laid-for, leaves-all, mask-class, mask-laid, of-halves, quiet-clips, signs, tells-for, told, truth}
 
 -- ---- rows of an instruction
 
