@@ -1,5 +1,5 @@
 -- The flag of a program: it is set exactly where an active element is clipped.
-use Rattle.std.proofs.Common.{◌≡◌, ◌≢◌, ℕ, zero, suc, ◌+◌, ◌*◌, ◌/◌, ◌<◌, ◌≤◌, Bool, true, false, cond, ◌&&◌, ◌||◌, not, ltb, leb, List, [], ◌∷◌, ◌++◌, refl, sym, ◌∙◌, ap, arith, ◌⊎◌, inl, ⊎_elim}
+use Rattle.std.proofs.Common.{◌≡◌, ℕ, zero, suc, ◌+◌, ◌*◌, ◌/◌, ◌<◌, ◌≤◌, Bool, true, false, cond, ◌&&◌, ◌||◌, not, ltb, leb, List, [], ◌∷◌, ◌++◌, refl, sym, ◌∙◌, ap, arith, ◌⊎◌, inl, ⊎_elim}
 use Rattle.std.proofs.lemmas.Bool.{cases_Bool, and_parts, ltb-true, false≢true}
 use Rattle.std.proofs.lemmas.Nat.{div-mul-add}
 use Rattle.std.proofs.Math.Nat.{mul-le-mul_right}
@@ -16,12 +16,12 @@ use Rattle.micro_ir.specs.Replay.{replay, effect, clips, all_keep_control}
 use Rattle.micro_ir.specs.Steps.{micros}
 use Rattle.micro_ir.specs.WorkRows.{mask_row, free_row}
 use Rattle.micro_ir.proofs.Keeping.{micros-keep}
-use Rattle.micro_ir.proofs.Lists.{replay-append, clips-append, clips-none, or_false}
+use Rattle.micro_ir.proofs.Lists.{clips-append, clips-none, or_false}
 use Rattle.micro_ir.proofs.Lift.{replay-columns}
 use Rattle.frame_laws.specs.Shapes.{Shape, Bounds, Bounded, first_of, is_prestart}
 use Rattle.frame_laws.specs.Programs.{active_window, mask_window, fill, one_register, first_registers, program}
 use Rattle.frame_laws.specs.Meaning.{place_in}
-use Rattle.frame_laws.specs.Realising.{Splatted, Windowed}
+use Rattle.frame_laws.specs.Realising.{Splatted}
 use Rattle.frame_laws.specs.Laws.{SameAt, Legal, AllRealised}
 use Rattle.frame_laws.specs.Clips.{Clipped, clips_at, TellsClips, AllTellClips, DependsOn, ClipLaw}
 use Rattle.frame_laws.proofs.Registers.{HoldsFirst, held, none_held, group_runs, written_else, splat-stands, splat-bits}

@@ -1,10 +1,10 @@
 -- Legal instructions set the flag where the frame's program does.
-use Rattle.std.proofs.Common.{◌≡◌, ℕ, zero, suc, ◌+◌, ◌-◌, ◌*◌, ◌/◌, ◌<◌, ◌≤◌, Bool, true, false, cond, not, ◌&&◌, ◌||◌, ltb, List, refl, sym, ◌∙◌, ap, arith, ⊎_elim}
+use Rattle.std.proofs.Common.{◌≡◌, ℕ, zero, suc, ◌+◌, ◌-◌, ◌*◌, ◌/◌, ◌<◌, ◌≤◌, Bool, true, false, cond, ◌&&◌, ◌||◌, ltb, List, refl, sym, ◌∙◌, ap, arith}
 use Rattle.std.specs.Int.{from_bool}
 use Rattle.std.proofs.lemmas.Bool.{le-ltb}
 use Rattle.cam_chain.specs.Views.{registers_of}
 use Rattle.element_ops.specs.Elements.{element_of, mask_bit_of}
-use Rattle.element_ops.specs.Places.{is_active, prestart, active, masked_off, tail, place_of}
+use Rattle.element_ops.specs.Places.{is_active, prestart, tail, place_of}
 use Rattle.fold_laws.specs.Folds.{any}
 use Rattle.fold_laws.proofs.Anys.{any_cat, any-same}
 use Rattle.rvv_decode.specs.declared.instruction.VInstr.{VInstr}
@@ -13,11 +13,11 @@ use Rattle.vtype_cfg.specs.Settings.{vlmax}
 use Rattle.legal_groups.specs.Facts.{registers_for}
 use Rattle.legal_groups.proofs.Widths.{width-least, vlmax-held_at}
 use Rattle.rvv_meaning.specs.Elementwise.{Elementwise, place, clips_below, clips as clips_elements}
-use Rattle.rvv_meaning.specs.Operations.{Operation, reads_mask, elements_at, on_elements}
+use Rattle.rvv_meaning.specs.Operations.{Operation, reads_mask, elements_at}
 use Rattle.frame_laws.specs.Shapes.{usual_bounds}
 use Rattle.frame_laws.specs.Meaning.{place_in}
 use Rattle.frame_laws.specs.Classes.Operands.{operand_of}
-use Rattle.frame_laws.specs.Classes.Plain.{plain_clip, plain_value}
+use Rattle.frame_laws.specs.Classes.Plain.{plain_clip}
 use Rattle.frame_laws.proofs.Classes.Operands.{whole-register}
 use Rattle.frame_laws.specs.Classes.Halved.{half_clip}
 use Rattle.frame_laws.proofs.Classes.PlainClips.{plain_clip_law}

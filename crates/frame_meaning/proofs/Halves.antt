@@ -1,17 +1,14 @@
 -- Legal narrowing instructions are of the class that the frame takes.
-use Rattle.std.proofs.Common.{◌≡◌, suc, ◌+◌, ◌-◌, ℕ, ◌*◌, ◌/◌, ◌%◌, ◌^◌, ◌<◌, ◌≤◌, Bool, nat_le, nat_lt, IsTrue, eqb, true, false, cond, not, ◌&&◌, ◌||◌, ltb, List, refl, sym, ◌∙◌, ap, arith, ◌⊎◌, inl, inr, ⊎_elim}
+use Rattle.std.proofs.Common.{◌≡◌, suc, ◌+◌, ◌-◌, ℕ, ◌*◌, ◌/◌, ◌^◌, ◌<◌, ◌≤◌, Bool, nat_le, nat_lt, IsTrue, true, false, cond, ◌&&◌, ◌||◌, ltb, List, refl, sym, ◌∙◌, ap, arith, ◌⊎◌, inl, inr, ⊎_elim}
 use Rattle.std.specs.List.{list_all}
 use Rattle.std.proofs.lemmas.Bool.{and_parts, ltb-true, leb-true, ne_eqb, cases_lt, cases_Bool, lt-ltb, le-ltb, le-leb}
 use Rattle.std.proofs.lemmas.Nat.{pow_pos}
 use Rattle.std.proofs.Math.Nat.{mod-eq_of_lt, mod-lt, mul-le-mul_right}
 use Rattle.std.proofs.Math.Pow.{pow_mono}
 use Rattle.bit_laws.specs.Numbers.{low}
-use Rattle.bit_laws.specs.Signed.{extended}
 use Rattle.bit_rows.specs.Slices.{Slices}
 use Rattle.cam_chain.specs.Views.{registers_of}
 use Rattle.element_ops.specs.Elements.{element_of}
-use Rattle.micro_ir.specs.Replay.{replay}
-use Rattle.micro_ir.specs.WorkRows.{left_row}
 use Rattle.rvv_decode.specs.declared.instruction.VInstr.{VInstr}
 use Rattle.rvv_decode.specs.declared.instruction.Form.{Form}
 use Rattle.rvv_decode.specs.declared.instruction.Form.TheVariants.{V, X, I}
@@ -23,25 +20,25 @@ use Rattle.vtype_cfg.proofs.Supported.{at_supported}
 use Rattle.rvv_meaning.specs.Elementwise.{Elementwise, makes_mask, registers_after}
 use Rattle.rvv_meaning.specs.Operations.{Operation, reads_mask, immediate_bits, elements_at, on_elements}
 use Rattle.rvv_meaning.specs.Operations as meaning
-use Rattle.legal_groups.specs.Facts.{IsElementWidth, registers_for, is_read_for, ReadBeside, GroupWritten}
+use Rattle.legal_groups.specs.Facts.{registers_for, is_read_for, ReadBeside, GroupWritten}
 use Rattle.legal_groups.proofs.Laws.{legal_group_law}
-use Rattle.legal_groups.proofs.Widths.{at_width, width-least, in_force, vlmax-held_at}
+use Rattle.legal_groups.proofs.Widths.{width-least, in_force, vlmax-held_at}
 use Rattle.frame_laws.specs.Shapes.{Shape, Bounded, usual_bounds}
 use Rattle.frame_laws.specs.Laws.{Framed}
 use Rattle.frame_laws.specs.Bytes as frame
 use Rattle.frame_laws.proofs.Ends.{usual_bounds_law}
 use Rattle.frame_laws.proofs.Costs.{even_tally_law, length_law, range_law}
 use Rattle.frame_laws.specs.Classes.Operands.{operand_of, is_laid_out_in, IsUnwritten}
-use Rattle.frame_laws.specs.Classes.Halved.{halves_row, Pair, half_value, IsHalfReadable, IsHalved}
+use Rattle.frame_laws.specs.Classes.Halved.{halves_row, half_value, IsHalfReadable, IsHalved}
 use Rattle.frame_laws.proofs.Classes.Halved.{halved_bytes_law}
 use Rattle.frame_laws.proofs.Classes.Operands.{whole-register}
 use Rattle.frame_meaning.specs.Shapes.{has_scalar}
 use Rattle.frame_meaning.specs.Laws.{Runs}
-use Rattle.frame_meaning.specs.Costs.{cost_of, length_of, ElementsMeasured}
+use Rattle.frame_meaning.specs.Costs.{cost_of, length_of}
 use Rattle.frame_meaning.specs.Halves.{half_count, half_row, half_in_vs1, half_operands, half_scalar_in, half_scalar, half_value_in, half_elements, half_shape, half_body, half_program_in, IsOfHalves, HalvesMeaningLaw, HalvesCostLaw}
 use Rattle.frame_meaning.proofs.Meaning.{meaning_law}
 use Rattle.frame_meaning.proofs.Instructions.{count, no_mask, reads-same}
-use Rattle.frame_meaning.proofs.OperandWidths.{Width, width-of}
+use Rattle.frame_meaning.proofs.OperandWidths.{width-of}
 
 -- ---- registers of the first operand
 

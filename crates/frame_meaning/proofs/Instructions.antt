@@ -1,5 +1,5 @@
 -- Legal instructions whose operands are groups of elements at the same place are of the class that the frame takes.
-use Rattle.std.proofs.Common.{◌≡◌, suc, ◌+◌, ◌-◌, ℕ, ◌*◌, ◌/◌, ◌%◌, ◌<◌, ◌≤◌, max, Bool, nat_le, IsTrue, eqb, true, false, not, ◌&&◌, ◌||◌, ltb, List, refl, sym, ◌∙◌, ap, arith, ◌⊎◌, inr, ⊎_elim}
+use Rattle.std.proofs.Common.{◌≡◌, suc, ◌+◌, ◌-◌, ℕ, ◌*◌, ◌/◌, ◌%◌, ◌<◌, ◌≤◌, max, Bool, nat_le, IsTrue, eqb, true, false, not, ◌&&◌, ◌||◌, ltb, List, refl, sym, ◌∙◌, ap, arith, inr, ⊎_elim}
 use Rattle.std.specs.List.{list_all}
 use Rattle.std.proofs.lemmas.Bool.{and_parts, ltb-true, leb-true, ne_eqb, cases_lt, lt-ltb, le-leb}
 use Rattle.std.proofs.lemmas.Nat.{div-add-mod', pow_pos}

@@ -1,5 +1,5 @@
 -- Legal comparisons are instructions that make a mask in the frame.
-use Rattle.std.proofs.Common.{◌≡◌, ◌*◌, ◌/◌, ℕ, ◌<◌, ◌≤◌, Bool, true, ◌||◌, ltb, length, List, refl, sym, ◌∙◌, ap, arith}
+use Rattle.std.proofs.Common.{◌≡◌, ◌*◌, ◌/◌, ℕ, ◌<◌, ◌≤◌, Bool, ◌||◌, ltb, List, refl, sym, ◌∙◌, ap, arith}
 use Rattle.std.proofs.lemmas.Bool.{and_parts, ltb-true}
 use Rattle.bit_rows.specs.Slices.{Slices}
 use Rattle.cam_chain.specs.Views.{registers_of}
@@ -33,7 +33,7 @@ use Rattle.frame_meaning.specs.Shapes.{source_in_vs1, has_scalar, signs_of, scal
 use Rattle.frame_meaning.specs.declared.Order.TheVariants.{Straight}
 use Rattle.frame_meaning.specs.Laws.{Runs}
 use Rattle.frame_meaning.specs.Costs.{AllMeasured}
-use Rattle.frame_meaning.specs.Masks.{compare_operands, compare_row, compare_shape, compare_program, truth_in, IsTruth, LeavesMask, CompareMeaningLaw, compare_cost_of, compare_length_of, CompareMeasured, MaskCosts, CompareCostLaw}
+use Rattle.frame_meaning.specs.Masks.{compare_operands, compare_row, compare_shape, compare_program, truth_in, IsTruth, CompareMeaningLaw, compare_cost_of, compare_length_of, CompareMeasured, CompareCostLaw}
 use Rattle.frame_meaning.proofs.Meaning.{mask_meaning_law}
 use Rattle.frame_meaning.proofs.Instructions.{second-value}
 use Rattle.frame_meaning.proofs.OperandWidths.{width-of, extended-same}

@@ -4,8 +4,6 @@ use Rattle.std.proofs.Math.Pow.{pow_mono}
 use Rattle.bit_laws.specs.Signed.{extended}
 use Rattle.steer_net.specs.Network.{is_width}
 use Rattle.rvv_meaning.specs.Operations.{immediate_bits}
-use Rattle.rvv_meaning.specs.Operations as meaning
-use Rattle.frame_laws.specs.Bytes as frame
 
 -- ---- widths
 

@@ -1,5 +1,5 @@
 -- When a program realises an instruction.
-use Rattle.std.specs.Prelude.{◌≡◌, ℕ, ◌*◌, Bool, true, false, cond, List, Option, Some, None}
+use Rattle.std.specs.Prelude.{◌≡◌, ℕ, ◌*◌, Bool, false, List, Option, Some, None}
 use Rattle.bit_laws.specs.Numbers.{low}
 use Rattle.bit_rows.specs.Slices.{Slices}
 use Rattle.cam_chain.specs.Views.{registers_of}

@@ -12,8 +12,8 @@ use Rattle.rvv_decode.specs.declared.instruction.VOp.{VOp}
 use Rattle.rvv_decode.specs.declared.instruction.VOp.TheVariants.{Opi, Opm}
 use Rattle.rvv_decode.specs.declared.instruction.Form.{Form}
 use Rattle.rvv_decode.specs.declared.instruction.Form.TheVariants.{V, X, I}
-use Rattle.rvv_decode.specs.declared.instruction.OpiOp.TheVariants.{Vadd, Vsub, Vrsub, Vadc, Vsbc, Vmadc, Vmsbc, Vand, Vor, Vxor, Vsll, Vsrl, Vsra, Vmseq, Vmsne, Vmsltu, Vmslt, Vmsleu, Vmsle, Vmsgtu, Vmsgt, Vminu, Vmin, Vmaxu, Vmax, Vmerge, VmvV, Vnsrl, Vnsra, Vssrl, Vssra}
-use Rattle.rvv_decode.specs.declared.instruction.OpmOp.TheVariants.{VzextVf2, VzextVf4, VsextVf2, VsextVf4, Vwaddu, Vwadd, Vwsubu, Vwsub, VwadduW, VwaddW, VwsubuW, VwsubW, Vwmulu, Vwmulsu, Vwmul, Vwmaccu, Vwmacc, Vwmaccus, Vwmaccsu, Vdivu, Vdiv, Vremu, Vrem, Vmulhu, Vmul, Vmulhsu, Vmulh, Vmadd, Vnmsub, Vmacc, Vnmsac}
+use Rattle.rvv_decode.specs.declared.instruction.OpiOp.TheVariants.{Vadd, Vsub, Vrsub, Vadc, Vsbc, Vmadc, Vmsbc, Vand, Vor, Vxor, Vsll, Vsrl, Vsra, Vmseq, Vmsne, Vmsltu, Vmslt, Vmsleu, Vmsle, Vmsgtu, Vmsgt, Vminu, Vmin, Vmaxu, Vmax, Vmerge, VmvV, Vnsrl, Vnsra, Vsaddu, Vsadd, Vssubu, Vssub, Vsmul, Vssrl, Vssra}
+use Rattle.rvv_decode.specs.declared.instruction.OpmOp.TheVariants.{VzextVf2, VzextVf4, VsextVf2, VsextVf4, Vwaddu, Vwadd, Vwsubu, Vwsub, VwadduW, VwaddW, VwsubuW, VwsubW, Vwmulu, Vwmulsu, Vwmul, Vwmaccu, Vwmacc, Vwmaccus, Vwmaccsu, Vdivu, Vdiv, Vremu, Vrem, Vmulhu, Vmul, Vmulhsu, Vmulh, Vmadd, Vnmsub, Vmacc, Vnmsac, Vaaddu, Vaadd, Vasubu, Vasub}
 use Rattle.vtype_cfg.specs.declared.configuration.Cfg.{Cfg}
 use Rattle.vtype_cfg.specs.Classes.{Row, class_of, row_of, width_at, count_at, is_mask_place}
 use Rattle.rvv_meaning.specs.Elementwise.{Elementwise, size_of}
@@ -426,8 +426,17 @@ operation_for (Opi Vmerge) = Some (of_two_and_mask vmerge)
 operation_for (Opi VmvV) = Some (of_two vmv)
 operation_for (Opi Vnsrl) = Some (unsigned_immediate vnsrl)
 operation_for (Opi Vnsra) = Some (unsigned_immediate vnsra)
+operation_for (Opi Vsmul) = Some (of_clipping vsmul vsmul_clips)
 operation_for (Opi Vssrl) = Some (without_sign (of_rounding vssrl))
 operation_for (Opi Vssra) = Some (without_sign (of_rounding vssra))
+operation_for (Opi Vsaddu) = Some (of_clipping vsaddu vsaddu_clips)
+operation_for (Opi Vsadd) = Some (of_clipping vsadd vsadd_clips)
+operation_for (Opi Vssubu) = Some (of_clipping vssubu vssubu_clips)
+operation_for (Opi Vssub) = Some (of_clipping vssub vssub_clips)
+operation_for (Opm Vaaddu) = Some (of_rounding vaaddu)
+operation_for (Opm Vaadd) = Some (of_rounding vaadd)
+operation_for (Opm Vasubu) = Some (of_rounding vasubu)
+operation_for (Opm Vasub) = Some (of_rounding vasub)
 operation_for (Opm VzextVf2) = Some (of_two vext)
 operation_for (Opm VzextVf4) = Some (of_two vext)
 operation_for (Opm VsextVf2) = Some (on_signed (of_two vext))

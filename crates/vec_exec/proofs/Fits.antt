@@ -1,15 +1,13 @@
 -- The lists of each recipe compute the value, or tell the truth, of its operation.
-use Rattle.std.proofs.Common.{◌≡◌, ℕ, ◌+◌, ◌-◌, ◌*◌, ◌^◌, eqb, Bool, true, false, cond, leb, ltb, Option, Some, None, refl, ap, arith, mul_comm}
-use Rattle.std.specs.Prelude.{is_some, ℤ, pos, negsuc, ◌*ℤ◌, int_div, int_rem}
-use Rattle.std.specs.Int.{int_shr, int_div_euclid}
-use Rattle.rvv_decode.specs.declared.instruction.OpiOp.TheVariants.{Vadd, Vsub, Vrsub, Vadc, Vsbc, Vmadc, Vmsbc, Vand, Vor, Vxor, Vsll, Vsrl, Vsra, Vmseq, Vmsne, Vmsltu, Vmslt, Vmsleu, Vmsle, Vmsgtu, Vmsgt, Vminu, Vmin, Vmaxu, Vmax, Vmerge, VmvV, Vnsrl, Vnsra, Vssrl, Vssra}
-use Rattle.rvv_decode.specs.declared.instruction.OpmOp.TheVariants.{Vdivu, Vdiv, Vremu, Vrem, Vmulhu, Vmul, Vmulhsu, Vmulh, Vmadd, Vnmsub, Vmacc, Vnmsac, VzextVf2, VzextVf4, VsextVf2, VsextVf4, Vwaddu, Vwadd, Vwsubu, Vwsub, VwadduW, VwaddW, VwsubuW, VwsubW, Vwmulu, Vwmulsu, Vwmul, Vwmaccu, Vwmacc, Vwmaccus, Vwmaccsu}
+use Rattle.std.proofs.Common.{◌≡◌, ℕ, ◌+◌, ◌-◌, ◌*◌, ◌^◌, Bool, true, false, cond, leb, ltb, Option, Some, None, refl, ap, arith, mul_comm}
+use Rattle.std.specs.Prelude.{is_some}
+use Rattle.rvv_decode.specs.declared.instruction.OpiOp.TheVariants.{Vadd, Vsub, Vrsub, Vadc, Vsbc, Vmadc, Vmsbc, Vand, Vor, Vxor, Vsll, Vsrl, Vsra, Vmseq, Vmsne, Vmsltu, Vmslt, Vmsleu, Vmsle, Vmsgtu, Vmsgt, Vminu, Vmin, Vmaxu, Vmax, Vmerge, VmvV, Vnsrl, Vnsra, Vsaddu, Vsadd, Vssubu, Vssub, Vsmul, Vssrl, Vssra}
+use Rattle.rvv_decode.specs.declared.instruction.OpmOp.TheVariants.{Vdivu, Vdiv, Vremu, Vrem, Vmulhu, Vmul, Vmulhsu, Vmulh, Vmadd, Vnmsub, Vmacc, Vnmsac, VzextVf2, VzextVf4, VsextVf2, VsextVf4, Vwaddu, Vwadd, Vwsubu, Vwsub, VwadduW, VwaddW, VwsubuW, VwsubW, Vwmulu, Vwmulsu, Vwmul, Vwmaccu, Vwmacc, Vwmaccus, Vwmaccsu, Vaaddu, Vaadd, Vasubu, Vasub}
 use Rattle.rvv_decode.specs.declared.instruction.VOp.{VOp}
 use Rattle.rvv_decode.specs.declared.instruction.VOp.TheVariants.{Opi, Opm, Config, Memory}
 use Rattle.vtype_cfg.specs.Classes.{Class, class_of, opi_class, opm_class, compare, narrowing}
 use Rattle.bit_laws.specs.Numbers.{low}
-use Rattle.bit_laws.specs.Signed.{signed}
-use Rattle.rvv_meaning.specs.Operations.{log2, Operation, operation_for}
+use Rattle.rvv_meaning.specs.Operations.{Operation, operation_for}
 use Rattle.frame_meaning.specs.declared.Order.{Order}
 use Rattle.frame_meaning.specs.declared.Order.TheVariants.{Straight, Widening, WideSource, Half, Quarter}
 use Rattle.frame_meaning.specs.declared.Signs.{Signs}
@@ -171,8 +169,17 @@ fits (Opi Vmerge) = record { same = refl; ignores = tt; means = λ w mode a b d 
 fits (Opi VmvV) = record { same = refl; ignores = λ w mode x y b d m. refl; means = λ w mode a b d m. refl; unmasked = λ w mode a b d m. refl; halves = tt; clips = refl }
 fits (Opi Vnsrl) = record { same = refl; ignores = tt; means = λ w mode a b d m. refl; unmasked = λ w mode a b d m. refl; halves = (record { ignores = λ w mode a b d m. refl; a = refl; b = refl; immediate = refl }, refl); clips = refl }
 fits (Opi Vnsra) = record { same = refl; ignores = tt; means = λ w mode a b d m. refl; unmasked = λ w mode a b d m. refl; halves = (record { ignores = λ w mode a b d m. refl; a = refl; b = refl; immediate = refl }, refl); clips = refl }
+fits (Opi Vsmul) = record { same = refl; ignores = tt; means = λ w mode a b d m. refl; unmasked = λ w mode a b d m. refl; halves = tt; clips = record { takes = refl; plain = refl; ignores = tt; means = λ w mode a b d. refl } }
 fits (Opi Vssrl) = record { same = refl; ignores = tt; means = λ w mode a b d m. refl; unmasked = λ w mode a b d m. refl; halves = tt; clips = refl }
 fits (Opi Vssra) = record { same = refl; ignores = tt; means = λ w mode a b d m. refl; unmasked = λ w mode a b d m. refl; halves = tt; clips = refl }
+fits (Opi Vsaddu) = record { same = refl; ignores = tt; means = λ w mode a b d m. refl; unmasked = λ w mode a b d m. refl; halves = tt; clips = record { takes = refl; plain = refl; ignores = tt; means = λ w mode a b d. refl } }
+fits (Opi Vsadd) = record { same = refl; ignores = tt; means = λ w mode a b d m. refl; unmasked = λ w mode a b d m. refl; halves = tt; clips = record { takes = refl; plain = refl; ignores = tt; means = λ w mode a b d. refl } }
+fits (Opi Vssubu) = record { same = refl; ignores = tt; means = λ w mode a b d m. refl; unmasked = λ w mode a b d m. refl; halves = tt; clips = record { takes = refl; plain = refl; ignores = tt; means = λ w mode a b d. refl } }
+fits (Opi Vssub) = record { same = refl; ignores = tt; means = λ w mode a b d m. refl; unmasked = λ w mode a b d m. refl; halves = tt; clips = record { takes = refl; plain = refl; ignores = tt; means = λ w mode a b d. refl } }
+fits (Opm Vaaddu) = record { same = refl; ignores = tt; means = λ w mode a b d m. refl; unmasked = λ w mode a b d m. refl; halves = tt; clips = refl }
+fits (Opm Vaadd) = record { same = refl; ignores = tt; means = λ w mode a b d m. refl; unmasked = λ w mode a b d m. refl; halves = tt; clips = refl }
+fits (Opm Vasubu) = record { same = refl; ignores = tt; means = λ w mode a b d m. refl; unmasked = λ w mode a b d m. refl; halves = tt; clips = refl }
+fits (Opm Vasub) = record { same = refl; ignores = tt; means = λ w mode a b d m. refl; unmasked = λ w mode a b d m. refl; halves = tt; clips = refl }
 fits (Opm Vmul) = record { same = refl; ignores = tt; means = λ w mode a b d m. refl; unmasked = λ w mode a b d m. refl; halves = tt; clips = refl }
 fits (Opm Vmulh) = record { same = refl; ignores = tt; means = λ w mode a b d m. refl; unmasked = λ w mode a b d m. refl; halves = tt; clips = refl }
 fits (Opm Vmulhu) = record { same = refl; ignores = tt; means = λ w mode a b d m. refl; unmasked = λ w mode a b d m. refl; halves = tt; clips = refl }

@@ -1,7 +1,8 @@
 -- The programs leave the control numbers.
-use Rattle.std.proofs.Common.{◌≡◌, ℕ, ◌+◌, ◌*◌, Bool, true, false, cond, List, [], ◌∷◌, ◌++◌, zero, suc, refl}
+use Rattle.std.proofs.Common.{◌≡◌, ℕ, ◌+◌, ◌*◌, Bool, true, false, cond, List, [], ◌∷◌, ◌++◌, zero, suc, refl, sym}
+use Rattle.std.proofs.lemmas.Bool.{false≢true}
 use Rattle.micro_ir.specs.declared.op.MicroOp.{MicroOp}
-use Rattle.micro_ir.specs.declared.op.MicroOp.TheVariants.{PackMask, Narrow}
+use Rattle.micro_ir.specs.declared.op.MicroOp.TheVariants.{PackMask}
 use Rattle.micro_ir.specs.Replay.{all_keep_control}
 use Rattle.micro_ir.specs.WorkRows.{active_row, truth_row}
 use Rattle.micro_ir.proofs.Lists.{keep-append}
@@ -10,9 +11,9 @@ use Rattle.rvv_decode.specs.declared.instruction.VInstr.{VInstr}
 use Rattle.vtype_cfg.specs.declared.configuration.Cfg.{Cfg}
 use Rattle.rvv_meaning.specs.Elementwise.{is_ones}
 use Rattle.vec_exec.specs.declared.recipes.Listed.{Listed}
-use Rattle.vec_exec.specs.declared.recipes.Listed.TheVariants.{Bits, Sums, Truths, Choices, Shifts, Products, Roundings, Divisions, Copies, Halves}
+use Rattle.vec_exec.specs.declared.recipes.Listed.TheVariants.{Bits, Sums, Truths, Choices, Shifts, Products, Fractions, Roundings, Averages, Saturations, Divisions, Copies, Halves}
 use Rattle.vec_exec.specs.declared.recipes.Recipe.{Recipe}
-use Rattle.frame_laws.specs.Classes.Halved.{Pair, Lists, halves_row, half_list, halves_list}
+use Rattle.frame_laws.specs.Classes.Halved.{halves_row, halves_list}
 use Rattle.frame_laws.specs.Classes.Operands.{laid_out}
 use Rattle.frame_laws.proofs.Classes.Spreading.{laid-keep}
 use Rattle.frame_laws.proofs.Classes.HalvedClips.{halves-keep}
@@ -36,6 +37,9 @@ list-keep (Truths kind) w mode a b d to quiet = micros-keep w _
 list-keep (Choices kind) w mode a b d to quiet = micros-keep w _
 list-keep (Shifts kind) w mode a b d to quiet = micros-keep w _
 list-keep (Products kind) w mode a b d to quiet = micros-keep w _
+list-keep Fractions w mode a b d to quiet = absurd (false≢true (sym quiet))
+list-keep (Saturations kind) w mode a b d to quiet = absurd (false≢true (sym quiet))
+list-keep (Averages kind sub) w mode a b d to quiet = micros-keep w _
 list-keep (Roundings right) w mode a b d to quiet = micros-keep w _
 list-keep (Divisions kind) w mode a b d to quiet = micros-keep w _
 list-keep Copies w mode a b d to quiet = micros-keep w _

@@ -8,4 +8,5 @@ pub mod Written
 pub mod Keeping
 pub mod Placed
 pub mod Listing
+pub mod Chosen
 pub mod Planned

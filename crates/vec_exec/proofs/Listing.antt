@@ -1,6 +1,6 @@
 -- What lists compute and leave, as an operation takes them.
 use Rattle.std.proofs.Common.{◌≡◌, ℕ, ◌*◌, ◌≤◌, Bool, true, false, ◌&&◌, List, refl, sym, subst, arith}
-use Rattle.std.proofs.lemmas.Bool.{ne_eqb}
+use Rattle.std.proofs.lemmas.Bool.{ne_eqb, false≢true}
 use Rattle.gen_shift.specs.Laws.{LeavesValue}
 use Rattle.gen_shift.specs.Rows.{is_among, shift_rows}
 use Rattle.micro_ir.specs.declared.op.MicroOp.{MicroOp}
@@ -9,15 +9,13 @@ use Rattle.micro_ir.specs.WorkRows.{scalar_row}
 use Rattle.micro_ir.proofs.Valued.{realises-same}
 use Rattle.rvv_decode.specs.declared.instruction.VInstr.{VInstr}
 use Rattle.vtype_cfg.specs.declared.configuration.Cfg.{Cfg}
-use Rattle.vtype_cfg.specs.Classes as classes
 use Rattle.rvv_meaning.specs.Operations.{Operation, reads_mask}
 use Rattle.frame_laws.specs.Classes.Halved.{LeavesLow}
 use Rattle.frame_laws.proofs.Classes.Halves.{leaves-low}
-use Rattle.frame_laws.specs.Masks.Programs as masks
 use Rattle.frame_meaning.specs.declared.Order.{Order}
 use Rattle.frame_meaning.specs.Shapes.{width_in, value_by, value_in}
 use Rattle.vec_exec.specs.declared.recipes.Listed.{Listed}
-use Rattle.vec_exec.specs.declared.recipes.Listed.TheVariants.{Bits, Sums, Truths, Choices, Shifts, Products, Roundings, Divisions, Copies, Halves}
+use Rattle.vec_exec.specs.declared.recipes.Listed.TheVariants.{Bits, Sums, Truths, Choices, Shifts, Products, Fractions, Roundings, Averages, Saturations, Divisions, Copies, Halves}
 use Rattle.row_views.specs.Clips.{ClipsWhere}
 use Rattle.vec_exec.specs.Recipes.{makes_bits, makes_halves, tells_clips, takes_row, value_of, list_of, Computes}
 
@@ -51,6 +49,9 @@ bits-quiet (Truths kind) bits = refl
 bits-quiet (Choices kind) bits = refl
 bits-quiet (Shifts kind) bits = refl
 bits-quiet (Products kind) bits = refl
+bits-quiet Fractions bits = absurd (false≢true bits)
+bits-quiet (Saturations kind) bits = absurd (false≢true bits)
+bits-quiet (Averages kind sub) bits = refl
 bits-quiet (Roundings right) bits = refl
 bits-quiet (Divisions kind) bits = refl
 bits-quiet Copies bits = refl
@@ -63,6 +64,9 @@ halves-quiet (Truths kind) halves = refl
 halves-quiet (Choices kind) halves = refl
 halves-quiet (Shifts kind) halves = refl
 halves-quiet (Products kind) halves = refl
+halves-quiet Fractions halves = absurd (false≢true halves)
+halves-quiet (Saturations kind) halves = absurd (false≢true halves)
+halves-quiet (Averages kind sub) halves = refl
 halves-quiet (Roundings right) halves = refl
 halves-quiet (Divisions kind) halves = refl
 halves-quiet Copies halves = refl

@@ -20,13 +20,12 @@ use Rattle.legal_groups.proofs.Laws.{legal_group_law}
 use Rattle.frame_laws.specs.Classes.Operands.{narrow, row_of, IsReadable}
 use Rattle.frame_laws.specs.Classes.Plain.{Operands}
 use Rattle.frame_laws.specs.Shapes.{Shape}
-use Rattle.frame_laws.specs.Masks.Programs as masks
 use Rattle.frame_meaning.specs.declared.Order.TheVariants.{Half, Quarter}
 use Rattle.frame_meaning.specs.Shapes.{source_in_vs1, narrow_in_vs1, class_in}
 use Rattle.frame_meaning.specs.Halves.{half_count, half_in_vs1}
 use Rattle.frame_meaning.proofs.Halves.{HalvesThere, halves-there}
 use Rattle.vec_exec.specs.declared.recipes.Listed.{Listed}
-use Rattle.vec_exec.specs.declared.recipes.Listed.TheVariants.{Bits, Sums, Truths, Choices, Shifts, Products, Roundings, Divisions, Copies, Halves}
+use Rattle.vec_exec.specs.declared.recipes.Listed.TheVariants.{Bits, Sums, Truths, Choices, Shifts, Products, Fractions, Roundings, Averages, Saturations, Divisions, Copies, Halves}
 use Rattle.vec_exec.specs.declared.recipes.Recipe.{Recipe}
 use Rattle.vec_exec.specs.Recipes.{takes_laid, uses_wide_rows, FitsRows}
 use Rattle.vec_exec.specs.Programs.{width_of, count_of, IsLayable, IsPlaced, IsMaskPlaced, IsHalfPlaced}
@@ -89,6 +88,9 @@ plain-rows (Truths kind) a b laid first second = (operand-row a first, operand-r
 plain-rows (Choices kind) a b laid first second = (operand-row a first, operand-row b second)
 plain-rows (Shifts kind) a b laid first second = (operand-row a first, operand-row b second)
 plain-rows (Products kind) a b laid first second = (operand-row a first, operand-row b second)
+plain-rows Fractions a b laid first second = (operand-row a first, operand-row b second)
+plain-rows (Saturations kind) a b laid first second = (operand-row a first, operand-row b second)
+plain-rows (Averages kind sub) a b laid first second = (operand-row a first, operand-row b second)
 plain-rows (Roundings right) a b laid first second = (operand-row a first, operand-row b second)
 plain-rows (Halves kind) a b laid first second = (operand-row a first, operand-row b second)
 plain-rows Copies a b laid first second = absurd (false≢true (sym laid))
@@ -101,6 +103,9 @@ wide-rows (Truths kind) a b laid free first second = (first, second)
 wide-rows (Choices kind) a b laid free first second = (first, second)
 wide-rows (Shifts kind) a b laid free first second = (first, second)
 wide-rows (Products kind) a b laid free first second = (first, second)
+wide-rows Fractions a b laid free first second = (first, second)
+wide-rows (Saturations kind) a b laid free first second = (first, second)
+wide-rows (Averages kind sub) a b laid free first second = (first, second)
 wide-rows (Roundings right) a b laid free first second = (first, second)
 wide-rows (Halves kind) a b laid free first second = (first, second)
 wide-rows Copies a b laid free first second = absurd (false≢true (sym laid))
@@ -114,6 +119,9 @@ laid-rows (Truths kind) b laid second = absurd (false≢true laid)
 laid-rows (Choices kind) b laid second = absurd (false≢true laid)
 laid-rows (Shifts kind) b laid second = absurd (false≢true laid)
 laid-rows (Products kind) b laid second = absurd (false≢true laid)
+laid-rows Fractions b laid second = absurd (false≢true laid)
+laid-rows (Saturations kind) b laid second = absurd (false≢true laid)
+laid-rows (Averages kind sub) b laid second = absurd (false≢true laid)
 laid-rows (Roundings right) b laid second = absurd (false≢true laid)
 laid-rows (Halves kind) b laid second = absurd (false≢true laid)
 
@@ -139,6 +147,9 @@ fits-small (Truths kind) a b fit = both-small a b fit
 fits-small (Choices kind) a b fit = both-small a b fit
 fits-small (Shifts kind) a b fit = both-small a b fit
 fits-small (Products kind) a b fit = both-small a b fit
+fits-small Fractions a b fit = both-small a b fit
+fits-small (Saturations kind) a b fit = both-small a b fit
+fits-small (Averages kind sub) a b fit = both-small a b fit
 fits-small (Roundings right) a b fit = both-small a b fit
 fits-small (Halves kind) a b fit = both-small a b fit
 fits-small Copies a b fit = let is : a ≡ 36 = fit.0 in (omega arith, operand-small b fit.1)

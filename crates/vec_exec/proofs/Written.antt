@@ -13,6 +13,7 @@ use Rattle.frame_meaning.specs.Shapes.{source_in_vs1, narrow_in_vs1, operands_in
 use Rattle.frame_meaning.specs.declared.Order.{Order}
 use Rattle.frame_meaning.specs.declared.Order.TheVariants.{Straight, Reversed, Second, Exchanged, Widening, WideSource, Half, Quarter}
 use Rattle.frame_meaning.specs.declared.Signs.{Signs}
+use Rattle.gen_mul.specs.Fractions.{smul_length}
 use Rattle.gen_shift.specs.Kinds.{raw_length, mode_length}
 use Rattle.gen_shift.specs.Lists.{mode_on}
 use Rattle.gen_shift.specs.Rows.{is_odd, shift_role, shifted_row}
@@ -34,7 +35,7 @@ use Rattle.rvv_meaning.specs.Operations.{log2}
 use Rattle.vtype_cfg.specs.declared.configuration.Cfg.{Cfg}
 use Rattle.vtype_cfg.specs.declared.vtype.Vtype.{Vtype}
 use Rattle.vec_exec.specs.declared.recipes.Listed.{Listed}
-use Rattle.vec_exec.specs.declared.recipes.Listed.TheVariants.{Bits, Sums, Truths, Choices, Shifts, Products, Roundings, Divisions, Copies, Halves}
+use Rattle.vec_exec.specs.declared.recipes.Listed.TheVariants.{Bits, Sums, Truths, Choices, Shifts, Products, Fractions, Roundings, Averages, Saturations, Divisions, Copies, Halves}
 use Rattle.vec_exec.specs.declared.recipes.Recipe.{Recipe}
 use Rattle.vec_exec.specs.Recipes.{makes_bits, makes_halves, length_of}
 use Rattle.rvv_meaning.specs.Elementwise.{is_ones}
@@ -79,6 +80,9 @@ bits-no-halves (Truths kind) bits = refl
 bits-no-halves (Choices kind) bits = refl
 bits-no-halves (Shifts kind) bits = refl
 bits-no-halves (Products kind) bits = refl
+bits-no-halves Fractions bits = refl
+bits-no-halves (Saturations kind) bits = refl
+bits-no-halves (Averages kind sub) bits = refl
 bits-no-halves (Roundings right) bits = refl
 bits-no-halves (Divisions kind) bits = refl
 bits-no-halves Copies bits = refl
@@ -326,6 +330,16 @@ mode-few mode w l most few = chosen (eqb mode 2)
     chosen true = omega arith
     chosen false = omega (arith, values-few mode)
 
+pub smul-few : (mode w : ℕ) → w ≤ 32 → smul_length mode w ≤ 30000
+smul-few mode w most =
+    let each : 20 * w + 64 ≤ 704 = omega arith in
+    let rounds : w * (20 * w + 64) ≤ 32 * 704 = mul-le w (20 * w + 64) 32 704 most each in
+    omega (arith, rounds, chosen (eqb mode 2))
+  where
+    chosen : (b : Bool) → cond b 0 (9 * w + 2 + length (mode_on mode)) ≤ 400
+    chosen true = omega arith
+    chosen false = omega (arith, values-few mode)
+
 pub half-list-few : (list : Listed) (w mode : ℕ) → makes_halves list ≡ true → w ≤ 32 → length_of list w mode ≤ 3000
 unfolding length_of
 half-list-few (Halves kind) w mode halves most = raw-few kind (2 * w) (log2 (2 * w)) (omega arith) (log2-small (2 * w))
@@ -335,6 +349,9 @@ half-list-few (Truths kind) w mode halves most = absurd (false≢true halves)
 half-list-few (Choices kind) w mode halves most = absurd (false≢true halves)
 half-list-few (Shifts kind) w mode halves most = absurd (false≢true halves)
 half-list-few (Products kind) w mode halves most = absurd (false≢true halves)
+half-list-few Fractions w mode halves most = absurd (false≢true halves)
+half-list-few (Saturations kind) w mode halves most = absurd (false≢true halves)
+half-list-few (Averages kind sub) w mode halves most = absurd (false≢true halves)
 half-list-few (Roundings right) w mode halves most = absurd (false≢true halves)
 half-list-few (Divisions kind) w mode halves most = absurd (false≢true halves)
 half-list-few Copies w mode halves most = absurd (false≢true halves)

@@ -1,11 +1,8 @@
 -- The program of an instruction, what it costs, and when a list realises an instruction.
-use Rattle.std.specs.Prelude.{◌≡◌, ◌<◌, ◌≤◌, ℕ, zero, suc, ◌+◌, ◌-◌, ◌*◌, ◌/◌, Bool, true, false, cond, ◌&&◌, not, List, [], ◌∷◌, ◌++◌, Option, Some, None}
+use Rattle.std.specs.Prelude.{◌≡◌, ◌<◌, ◌≤◌, ℕ, zero, suc, ◌+◌, ◌-◌, ◌*◌, ◌/◌, Bool, true, false, cond, ◌&&◌, not, List, [], ◌∷◌, ◌++◌}
 use Rattle.std.specs.Option.{option_map_or}
-use Rattle.bit_laws.specs.Numbers.{low}
-use Rattle.bit_rows.specs.Slices.{Slices}
 use Rattle.cam_chain.specs.ChainValue.{no_counts}
 use Rattle.cam_chain.specs.declared.counts.Counts.{Counts}
-use Rattle.cam_chain.specs.Views.{registers_of}
 use Rattle.frame_laws.specs.Classes.Halved.{Pair, Lists, LeavesLow, halves_row, halves_list, half_list}
 use Rattle.frame_laws.specs.Classes.Operands.{Operand, group, scalar, narrow, row_of, laid_out}
 use Rattle.frame_laws.specs.Classes.Plain.{Operands, with_operands}
@@ -23,7 +20,7 @@ use Rattle.micro_ir.specs.Steps.{micros}
 use Rattle.micro_ir.specs.WorkRows.{IsOperandRow, active_row, mask_row, truth_row}
 use Rattle.micro_ir.specs.declared.op.MicroOp.{MicroOp}
 use Rattle.micro_ir.specs.declared.op.MicroOp.TheVariants.{Window, PackMask}
-use Rattle.micro_ir.specs.Replay.{replay, clips, counts_and}
+use Rattle.micro_ir.specs.Replay.{counts_and}
 use Rattle.rvv_decode.specs.declared.instruction.OpiOp.{OpiOp}
 use Rattle.rvv_decode.specs.declared.instruction.OpiOp.TheVariants.{Vrgather, Vrgatherei16}
 use Rattle.rvv_decode.specs.declared.instruction.OpmOp.{OpmOp}
@@ -35,7 +32,7 @@ use Rattle.rvv_decode.specs.declared.instruction.VOp.{VOp}
 use Rattle.rvv_decode.specs.declared.instruction.VOp.TheVariants.{Opi, Opm, Config, Memory}
 use Rattle.steer_net.specs.Moves.{is_wide}
 use Rattle.vtype_cfg.specs.declared.configuration.Cfg.{Cfg}
-use Rattle.rvv_meaning.specs.Elementwise.{is_ones, registers_after, clips as clips_elements}
+use Rattle.rvv_meaning.specs.Elementwise.{is_ones}
 use Rattle.rvv_meaning.specs.Operations.{log2}
 use Rattle.vec_exec.specs.declared.recipes.Listed.{Listed}
 use Rattle.vec_exec.specs.declared.recipes.Recipe.{Recipe}

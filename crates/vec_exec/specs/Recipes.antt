@@ -8,9 +8,13 @@ use Rattle.gen_arith.specs.declared.kinds.Choice.TheVariants.{Minu, Min, Maxu, M
 use Rattle.gen_div.specs.Kinds.{division_value, division_ops, division_counts, division_length}
 use Rattle.gen_div.specs.Rows.{IsRowOf}
 use Rattle.gen_div.specs.declared.kinds.Division.TheVariants.{Divu, Remu, Div, Rem}
+use Rattle.gen_fixed.specs.Kinds.{average_value, average_ops, average_counts, average_length, saturating_value, saturating_clips, saturating_ops, saturating_counts, saturating_length}
+use Rattle.gen_fixed.specs.declared.kinds.Average.TheVariants.{Avgu, Avg}
+use Rattle.gen_fixed.specs.declared.kinds.Saturating.TheVariants.{Saddu, Sadd, Ssubu, Ssub}
 use Rattle.gen_logic.specs.Recipes.{logic_ops, logic_counts, logic_length}
 use Rattle.gen_logic.specs.Values.{takes_mask, value_of as logic_value}
 use Rattle.gen_logic.specs.declared.kinds.Logic.TheVariants.{And, Or, Xor, Merge, First, Second}
+use Rattle.gen_mul.specs.Fractions.{smul_value, smul_clips, smul_ops, smul_counts, smul_length}
 use Rattle.gen_mul.specs.Kinds.{product_value, product_ops, product_counts, product_length}
 use Rattle.gen_mul.specs.declared.kinds.Product.TheVariants.{Mul, Mulhu, Mulhsu, Mulh, Macc, Nmsac}
 use Rattle.gen_shift.specs.Kinds.{shift_value, shift_ops, shift_counts, shift_length, raw_ops, raw_counts, raw_length, rounded_value, rounded_ops, rounded_counts, rounded_length}
@@ -24,15 +28,15 @@ use Rattle.micro_ir.specs.WorkRows.{IsOperandRow, result_row}
 use Rattle.micro_ir.specs.declared.op.MicroOp.{MicroOp}
 use Rattle.micro_ir.specs.declared.place.Place.{Place}
 use Rattle.row_views.specs.Clips.{ClipsWhere}
-use Rattle.rvv_decode.specs.declared.instruction.OpiOp.TheVariants.{Vadd, Vsub, Vrsub, Vadc, Vsbc, Vmadc, Vmsbc, Vand, Vor, Vxor, Vsll, Vsrl, Vsra, Vmseq, Vmsne, Vmsltu, Vmslt, Vmsleu, Vmsle, Vmsgtu, Vmsgt, Vminu, Vmin, Vmaxu, Vmax, Vmerge, VmvV, Vnsrl, Vnsra, Vssrl, Vssra}
-use Rattle.rvv_decode.specs.declared.instruction.OpmOp.TheVariants.{Vdivu, Vdiv, Vremu, Vrem, Vmulhu, Vmul, Vmulhsu, Vmulh, Vmadd, Vnmsub, Vmacc, Vnmsac, VzextVf2, VzextVf4, VsextVf2, VsextVf4, Vwaddu, Vwadd, Vwsubu, Vwsub, VwadduW, VwaddW, VwsubuW, VwsubW, Vwmulu, Vwmulsu, Vwmul, Vwmaccu, Vwmacc, Vwmaccus, Vwmaccsu}
+use Rattle.rvv_decode.specs.declared.instruction.OpiOp.TheVariants.{Vadd, Vsub, Vrsub, Vadc, Vsbc, Vmadc, Vmsbc, Vand, Vor, Vxor, Vsll, Vsrl, Vsra, Vmseq, Vmsne, Vmsltu, Vmslt, Vmsleu, Vmsle, Vmsgtu, Vmsgt, Vminu, Vmin, Vmaxu, Vmax, Vmerge, VmvV, Vnsrl, Vnsra, Vsaddu, Vsadd, Vssubu, Vssub, Vsmul, Vssrl, Vssra}
+use Rattle.rvv_decode.specs.declared.instruction.OpmOp.TheVariants.{Vdivu, Vdiv, Vremu, Vrem, Vmulhu, Vmul, Vmulhsu, Vmulh, Vmadd, Vnmsub, Vmacc, Vnmsac, VzextVf2, VzextVf4, VsextVf2, VsextVf4, Vwaddu, Vwadd, Vwsubu, Vwsub, VwadduW, VwaddW, VwsubuW, VwsubW, Vwmulu, Vwmulsu, Vwmul, Vwmaccu, Vwmacc, Vwmaccus, Vwmaccsu, Vaaddu, Vaadd, Vasubu, Vasub}
 use Rattle.rvv_decode.specs.declared.instruction.VOp.{VOp}
 use Rattle.rvv_decode.specs.declared.instruction.VOp.TheVariants.{Opi, Opm}
 use Rattle.frame_meaning.specs.declared.Order.{Order}
 use Rattle.frame_meaning.specs.declared.Order.TheVariants.{Straight, Reversed, Second as SecondAlone, Exchanged, Widening, WideSource, Half, Quarter}
 use Rattle.rvv_meaning.specs.Operations.{log2}
 use Rattle.vec_exec.specs.declared.recipes.Listed.{Listed}
-use Rattle.vec_exec.specs.declared.recipes.Listed.TheVariants.{Bits, Sums, Truths, Choices, Shifts, Products, Roundings, Divisions, Copies, Halves}
+use Rattle.vec_exec.specs.declared.recipes.Listed.TheVariants.{Bits, Sums, Truths, Choices, Shifts, Products, Fractions, Roundings, Averages, Saturations, Divisions, Copies, Halves}
 use Rattle.vec_exec.specs.declared.recipes.Recipe.{Recipe}
 use Rattle.vec_exec.specs.declared.recipes.Right.{Right}
 use Rattle.vec_exec.specs.declared.recipes.Right.TheVariants.{Zeros, Sign}
@@ -104,8 +108,17 @@ recipe_for (Opm Vmadd) = Some (ordered (Products Macc) Exchanged)
 recipe_for (Opm Vnmsub) = Some (ordered (Products Nmsac) Exchanged)
 recipe_for (Opi Vnsrl) = Some (of_unsigned (Halves Srl))
 recipe_for (Opi Vnsra) = Some (of_unsigned (Halves Sra))
+recipe_for (Opi Vsmul) = Some (of_two Fractions)
 recipe_for (Opi Vssrl) = Some (of_unsigned (Roundings Zeros))
 recipe_for (Opi Vssra) = Some (of_unsigned (Roundings Sign))
+recipe_for (Opi Vsaddu) = Some (of_two (Saturations Saddu))
+recipe_for (Opi Vsadd) = Some (of_two (Saturations Sadd))
+recipe_for (Opi Vssubu) = Some (of_two (Saturations Ssubu))
+recipe_for (Opi Vssub) = Some (of_two (Saturations Ssub))
+recipe_for (Opm Vaaddu) = Some (of_two (Averages Avgu false))
+recipe_for (Opm Vaadd) = Some (of_two (Averages Avg false))
+recipe_for (Opm Vasubu) = Some (of_two (Averages Avgu true))
+recipe_for (Opm Vasub) = Some (of_two (Averages Avg true))
 recipe_for (Opm VzextVf2) = Some (ordered Copies Half)
 recipe_for (Opm VzextVf4) = Some (ordered Copies Quarter)
 recipe_for (Opm VsextVf2) = Some (on_signed Copies Half)
@@ -142,6 +155,9 @@ makes_bits (Truths kind) = true
 makes_bits (Choices kind) = false
 makes_bits (Shifts kind) = false
 makes_bits (Products kind) = false
+makes_bits Fractions = false
+makes_bits (Saturations kind) = false
+makes_bits (Averages kind sub) = false
 makes_bits (Roundings right) = false
 makes_bits (Divisions kind) = false
 makes_bits Copies = false
@@ -160,6 +176,9 @@ takes_row (Truths kind) = truth_takes_mask kind
 takes_row (Choices kind) = false
 takes_row (Shifts kind) = false
 takes_row (Products kind) = false
+takes_row Fractions = false
+takes_row (Saturations kind) = false
+takes_row (Averages kind sub) = false
 takes_row (Roundings right) = false
 takes_row (Divisions kind) = false
 takes_row Copies = false
@@ -193,6 +212,9 @@ list_of (Truths kind) w mode a b d to = truth_ops kind w (rows mode a b d to)
 list_of (Choices kind) w mode a b d to = choice_ops kind w (rows mode a b d to)
 list_of (Shifts kind) w mode a b d to = shift_ops kind w (log2 w) (rows mode a b d to)
 list_of (Products kind) w mode a b d to = product_ops kind w (rows mode a b d to)
+list_of Fractions w mode a b d to = smul_ops w (rows mode a b d to)
+list_of (Saturations kind) w mode a b d to = saturating_ops kind w (rows mode a b d to)
+list_of (Averages kind sub) w mode a b d to = average_ops kind w (record (rows mode a b d to) { sub = sub })
 list_of (Roundings right) w mode a b d to = rounded_ops (shift_of right) w (log2 w) (rows mode a b d to)
 list_of (Divisions kind) w mode a b d to = division_ops kind w (rows mode a b d to)
 list_of Copies w mode a b d to = micros w (commit w a to)
@@ -210,6 +232,9 @@ value_of (Truths kind) w mode a b d m = 0
 value_of (Choices kind) w mode a b d m = choice_value kind w a b
 value_of (Shifts kind) w mode a b d m = shift_value kind w (log2 w) a b
 value_of (Products kind) w mode a b d m = product_value kind w a b d
+value_of Fractions w mode a b d m = smul_value mode w a b
+value_of (Saturations kind) w mode a b d m = saturating_value kind w mode a b
+value_of (Averages kind sub) w mode a b d m = average_value kind sub w mode a b
 value_of (Roundings right) w mode a b d m = rounded_value (shift_of right) mode w (log2 w) a b
 value_of (Divisions kind) w mode a b d m = division_value kind w a b
 value_of Copies w mode a b d m = a
@@ -228,6 +253,9 @@ tells_clips (Truths kind) = false
 tells_clips (Choices kind) = false
 tells_clips (Shifts kind) = false
 tells_clips (Products kind) = false
+tells_clips Fractions = true
+tells_clips (Saturations kind) = true
+tells_clips (Averages kind sub) = false
 tells_clips (Roundings right) = false
 tells_clips (Divisions kind) = false
 tells_clips Copies = false
@@ -235,6 +263,8 @@ tells_clips (Halves kind) = false
 
 -- whether a result is clipped
 abbrev pub clips_of : Listed → (w mode a b d : ℕ) → Bool
+clips_of Fractions w mode a b d = smul_clips mode w a b
+clips_of (Saturations kind) w mode a b d = saturating_clips kind w mode a b
 clips_of _ w mode a b d = false
 
 -- its searches, updates and passes
@@ -245,6 +275,9 @@ counts_of (Truths kind) w mode = truth_counts kind w
 counts_of (Choices kind) w mode = choice_counts w
 counts_of (Shifts kind) w mode = shift_counts kind w (log2 w)
 counts_of (Products kind) w mode = product_counts kind w
+counts_of Fractions w mode = smul_counts mode w
+counts_of (Saturations kind) w mode = saturating_counts kind w
+counts_of (Averages kind sub) w mode = average_counts mode w
 counts_of (Roundings right) w mode = rounded_counts (shift_of right) mode w (log2 w)
 counts_of (Divisions kind) w mode = division_counts kind w
 counts_of Copies w mode = counts 2 2 0
@@ -258,6 +291,9 @@ length_of (Truths kind) w mode = truth_length kind w
 length_of (Choices kind) w mode = choice_length w
 length_of (Shifts kind) w mode = shift_length kind w (log2 w)
 length_of (Products kind) w mode = product_length kind w
+length_of Fractions w mode = smul_length mode w
+length_of (Saturations kind) w mode = saturating_length kind w
+length_of (Averages kind sub) w mode = average_length mode w
 length_of (Roundings right) w mode = rounded_length (shift_of right) mode w (log2 w)
 length_of (Divisions kind) w mode = division_length kind w
 length_of Copies w mode = 4

@@ -5,9 +5,9 @@ ghost use Rattle.cam_chain.specs.Views.{registers_of, KeepsRest};
 ghost use Rattle.rvv_decode.specs.Ranges.{IsInRange};
 ghost use Rattle.vtype_cfg.specs.Legality.{is_legal};
 ghost use Rattle.vtype_cfg.specs.Settings.{is_valid};
-ghost use Rattle.rvv_meaning.specs.Vectors.{is_computed, left_of};
+ghost use Rattle.rvv_meaning.specs.Vectors.{is_computed};
 ghost use Rattle.rvv_meaning.specs.Whole.{makes_number};
-ghost use Rattle.vec_exec.specs.Moves.{LeavesRegisters};
+ghost use Rattle.vec_exec.specs.Moves.{Permutes};
 ghost use Rattle.vec_exec.specs.Programs.{is_engine};
 
 use cam_chain::Chain;
@@ -25,8 +25,7 @@ pub fn permute(i: &VInstr, cfg: &Cfg, chain: &mut Chain)
     requires legal { is_legal i.now cfg.now.vtype cfg.now.vstart ≡ true }
     requires valid { IsTrue (is_valid cfg.now) }
     requires long { cfg.now.vlen ≡ 32 * chain.old.columns }
-    ensures vectors { (x : ℕ) → LeavesRegisters cfg.now (registers_of (slices_of chain.old))
-        (left_of i.now cfg.now x (registers_of (slices_of chain.old))) (registers_of (slices_of chain.new)) }
+    ensures vectors { Permutes i.now cfg.now (registers_of (slices_of chain.old)) (registers_of (slices_of chain.new)) }
     ensures rest { KeepsRest (slices_of chain.old) (slices_of chain.new) }
     ensures columns { chain.new.columns ≡ chain.old.columns }
     ensures counts { chain.new.counts ≡ chain.old.counts }

@@ -13,8 +13,9 @@ use bit_laws::Width;
 use frame_meaning::{Order, Signs};
 use gen_arith::{Choice, Sum, Truth, arith_length_law, emit_choice, emit_sum, emit_truth};
 use gen_div::{Division, division_length_law, emit_division};
+use gen_fixed::{Average, Saturating, emit_average, emit_saturating, fixed_length_law};
 use gen_logic::{Logic, emit_logic, logic_length_law};
-use gen_mul::{Product, emit_product, product_length_law};
+use gen_mul::{Product, emit_product, emit_smul, product_length_law};
 use gen_shift::{Shift, emit_rounded, emit_shift, shift_length_law};
 use micro_ir::{MicroBuf, Place, emit_commit};
 use rvv_decode::{OpiOp, OpmOp, VOp};
@@ -26,7 +27,7 @@ pub(crate) enum Right {
     Sign,
 }
 
-/// A list: a generator's table, and a kind of it; a shift to the right that rounds; a copy of what is laid out; or a shift at twice the width of the elements,
+/// A list: a generator's table, and a kind of it, of averages with whether they are of a difference; a product of fractions; a shift to the right that rounds; a copy of what is laid out; or a shift at twice the width of the elements,
 /// which computes one half of a register at a time.
 #[derive(Clone, Copy, PartialEq, Eq)]
 pub(crate) enum Listed {
@@ -36,6 +37,9 @@ pub(crate) enum Listed {
     Choices(Choice),
     Shifts(Shift),
     Products(Product),
+    Fractions,
+    Averages(Average, bool),
+    Saturations(Saturating),
     Roundings(Right),
     Divisions(Division),
     Copies,
@@ -195,6 +199,11 @@ fn opi_recipe(op: OpiOp) -> Option<Recipe>
         OpiOp::VmvV => ordered(Listed::Bits(Logic::Second), Order::Second),
         OpiOp::Vnsrl => of_unsigned(Listed::Halves(Shift::Srl)),
         OpiOp::Vnsra => of_unsigned(Listed::Halves(Shift::Sra)),
+        OpiOp::Vsaddu => of_two(Listed::Saturations(Saturating::Saddu)),
+        OpiOp::Vsadd => of_two(Listed::Saturations(Saturating::Sadd)),
+        OpiOp::Vssubu => of_two(Listed::Saturations(Saturating::Ssubu)),
+        OpiOp::Vssub => of_two(Listed::Saturations(Saturating::Ssub)),
+        OpiOp::Vsmul => of_two(Listed::Fractions),
         OpiOp::Vssrl => of_unsigned(Listed::Roundings(Right::Zeros)),
         OpiOp::Vssra => of_unsigned(Listed::Roundings(Right::Sign)),
         _ => return None,
@@ -220,6 +229,10 @@ fn opm_recipe(op: OpmOp) -> Option<Recipe>
         OpmOp::Vnmsac => of_two(Listed::Products(Product::Nmsac)),
         OpmOp::Vmadd => ordered(Listed::Products(Product::Macc), Order::Exchanged),
         OpmOp::Vnmsub => ordered(Listed::Products(Product::Nmsac), Order::Exchanged),
+        OpmOp::Vaaddu => of_two(Listed::Averages(Average::Avgu, false)),
+        OpmOp::Vaadd => of_two(Listed::Averages(Average::Avg, false)),
+        OpmOp::Vasubu => of_two(Listed::Averages(Average::Avgu, true)),
+        OpmOp::Vasub => of_two(Listed::Averages(Average::Avg, true)),
         OpmOp::VzextVf2 => ordered(Listed::Copies, Order::Half),
         OpmOp::VzextVf4 => ordered(Listed::Copies, Order::Quarter),
         OpmOp::VsextVf2 => on_signed(Listed::Copies, Order::Half),
@@ -278,6 +291,16 @@ pub(crate) fn list_length_law()
     shift_length_law();
     product_length_law();
     division_length_law();
+    fixed_length_law();
+}
+
+// The same rows, for a list of a difference or of a sum.
+fn with_difference(at: &Place, sub: bool) -> Place
+    ensures { result ≡ record at.now { sub = sub } }
+{
+    let mut with = *at;
+    with.sub = sub;
+    with
 }
 
 /// Appends a list.
@@ -303,6 +326,12 @@ pub(crate) fn emit_list<W: Width>(list: Listed, at: &Place, buf: &mut MicroBuf)
         Listed::Choices(kind) => emit_choice::<W>(buf, at, kind),
         Listed::Shifts(kind) => emit_shift::<W>(buf, at, kind),
         Listed::Roundings(right) => emit_rounded::<W>(buf, at, shift_of(right)),
+        Listed::Averages(kind, sub) => {
+            let with = with_difference(at, sub);
+            emit_average::<W>(buf, &with, kind);
+        }
+        Listed::Saturations(kind) => emit_saturating::<W>(buf, at, kind),
+        Listed::Fractions => emit_smul::<W>(buf, at),
         Listed::Products(kind) => emit_product::<W>(buf, at, kind),
         Listed::Divisions(kind) => emit_division::<W>(buf, at, kind),
         Listed::Copies => emit_commit(buf, at.a, at.to),

@@ -1,14 +1,12 @@
 -- An instruction that makes a mask from two operands is one that the frame of masks takes.
-use Rattle.std.proofs.Common.{◌≡◌, ℕ, ◌+◌, ◌*◌, ◌/◌, ◌^◌, ◌<◌, ◌≤◌, Bool, true, false, ◌||◌, List, refl, sym, ◌∙◌, ap, arith, ◌⊎◌, ⊎_elim}
+use Rattle.std.proofs.Common.{◌≡◌, ℕ, ◌+◌, ◌*◌, ◌/◌, ◌<◌, ◌≤◌, Bool, true, false, ◌||◌, List, refl, sym, ◌∙◌, ap, arith, ◌⊎◌, ⊎_elim}
 use Rattle.std.specs.Int.{from_bool}
 use Rattle.std.proofs.lemmas.Bool.{eqb-true, or_cases, or_left, or_right, false≢true}
-use Rattle.bit_laws.specs.Numbers.{number, low}
-use Rattle.bit_laws.proofs.Numbers.{number-lt}
+use Rattle.bit_laws.specs.Numbers.{low}
 use Rattle.cam_chain.specs.Views.{registers_of}
 use Rattle.steer_net.specs.Network.{bit_in}
 use Rattle.element_ops.specs.Elements.{bits_of, mask_bit_of}
 use Rattle.micro_ir.specs.declared.op.MicroOp.{MicroOp}
-use Rattle.micro_ir.specs.Steps.{element}
 use Rattle.frame_laws.specs.Shapes.{Shape, Bounds, first_of, element_number}
 use Rattle.micro_ir.specs.Kinds.{Tells}
 use Rattle.frame_laws.specs.Bytes.{size_of}

@@ -1,6 +1,6 @@
 -- An instruction whose elements are half as wide as those of its first operand is one that the frame takes.
-use Rattle.std.proofs.Common.{◌≡◌, ◌≢◌, ℕ, zero, suc, ◌+◌, ◌-◌, ◌*◌, ◌/◌, ◌%◌, ◌^◌, ◌<◌, ◌≤◌, Bool, true, false, cond, ◌&&◌, ◌||◌, eqb, ltb, leb, not, List, [], ◌++◌, refl, sym, ◌∙◌, ap, subst, arith, ◌⊎◌, inl, inr, ⊎_elim}
-use Rattle.std.proofs.lemmas.Bool.{cases_lt, cases_Bool, eq-eqb, eqb-true, lt-ltb, ltb-true, and_parts, or_cases, or_left, or_right, false≢true}
+use Rattle.std.proofs.Common.{◌≡◌, ℕ, suc, ◌+◌, ◌-◌, ◌*◌, ◌/◌, ◌<◌, ◌≤◌, Bool, true, false, cond, ◌&&◌, ◌||◌, eqb, ltb, leb, not, [], ◌++◌, refl, sym, ◌∙◌, ap, subst, arith, ⊎_elim}
+use Rattle.std.proofs.lemmas.Bool.{cases_lt, eq-eqb, eqb-true, lt-ltb, ltb-true, and_parts, or_cases, or_left, or_right, false≢true}
 use Rattle.std.proofs.lemmas.Nat.{div-mul-add}
 use Rattle.std.proofs.Math.Nat.{mul-le-mul_right}
 use Rattle.bit_laws.specs.Numbers.{number, low}
@@ -8,7 +8,7 @@ use Rattle.bit_laws.proofs.Numbers.{number-same}
 use Rattle.bit_rows.specs.Slices.{Slices}
 use Rattle.cam_chain.specs.Views.{registers_of}
 use Rattle.steer_net.specs.Network.{bit_in, is_within}
-use Rattle.element_ops.specs.Elements.{Registers, element_in, element_of, bits_of, mask_bit_of}
+use Rattle.element_ops.specs.Elements.{Registers, element_in, bits_of, mask_bit_of}
 use Rattle.micro_ir.specs.Pieces.{commit}
 use Rattle.micro_ir.specs.Replay.{replay}
 use Rattle.micro_ir.specs.Steps.{element, steps_on, micros}
@@ -18,7 +18,7 @@ use Rattle.micro_ir.proofs.Lift.{replay-columns, element-inside, micros-element}
 use Rattle.micro_ir.proofs.OneElement.{commit-here, commit-row, commit-fits}
 use Rattle.row_views.specs.Clips.{clip_test}
 use Rattle.frame_laws.specs.Shapes.{Shape, Bounds, first_of, element_number}
-use Rattle.frame_laws.specs.Realising.{Splatted, Windowed, Realised}
+use Rattle.frame_laws.specs.Realising.{Windowed, Realised}
 use Rattle.frame_laws.specs.Laws.{SameAt, Legal}
 use Rattle.frame_laws.specs.Bytes.{size_of}
 use Rattle.frame_laws.specs.Classes.Operands.{Operand, group, scalar, narrow, operand_number, operand_of, is_read, IsUnwritten}
@@ -27,7 +27,7 @@ use Rattle.frame_laws.proofs.Elements.{bit_place}
 use Rattle.frame_laws.proofs.Registers.{frame_law}
 use Rattle.frame_laws.proofs.Bytes.{bytes_law}
 use Rattle.frame_laws.proofs.Classes.Operands.{IsShaped, whole-register, same-operand, same-here}
-use Rattle.frame_laws.proofs.Classes.Halves.{per, value_at, Done, room, halves-done}
+use Rattle.frame_laws.proofs.Classes.Halves.{per, Done, halves-done}
 
 -- ---- elements and halves
 

@@ -1,5 +1,5 @@
 -- The flag of an instruction whose elements are half as wide as those of its first operand.
-use Rattle.std.proofs.Common.{◌≡◌, ◌≢◌, ℕ, zero, suc, ◌+◌, ◌*◌, ◌/◌, ◌%◌, ◌<◌, ◌≤◌, Bool, true, false, cond, ◌&&◌, ◌||◌, List, [], ◌∷◌, ◌++◌, refl, sym, ◌∙◌, ap, arith}
+use Rattle.std.proofs.Common.{◌≡◌, ℕ, zero, suc, ◌+◌, ◌*◌, ◌/◌, ◌%◌, ◌<◌, ◌≤◌, Bool, true, false, cond, ◌&&◌, List, [], ◌∷◌, ◌++◌, refl, sym, ◌∙◌, ap, arith}
 use Rattle.std.proofs.lemmas.Nat.{div-add-mod'}
 use Rattle.bit_rows.specs.Slices.{Slices}
 use Rattle.cam_chain.specs.Views.{registers_of}
@@ -13,7 +13,7 @@ use Rattle.micro_ir.specs.declared.op.MicroOp.{MicroOp}
 use Rattle.micro_ir.specs.declared.op.MicroOp.TheVariants.{Narrow}
 use Rattle.micro_ir.specs.Pieces.{commit}
 use Rattle.micro_ir.specs.Replay.{replay, clips, all_keep_control}
-use Rattle.micro_ir.specs.Steps.{element, micros}
+use Rattle.micro_ir.specs.Steps.{micros}
 use Rattle.micro_ir.specs.WorkRows.{active_row, truth_row}
 use Rattle.micro_ir.proofs.Keeping.{micros-keep}
 use Rattle.micro_ir.proofs.Lists.{keep-append, clips-append, clips-none, or_false}
@@ -31,8 +31,8 @@ use Rattle.frame_laws.proofs.Bytes.{bits-registers_of}
 use Rattle.frame_laws.proofs.Clips.{register-elements, where_active, within-len, clip_law}
 use Rattle.frame_laws.proofs.Classes.Operands.{IsShaped, same-here}
 use Rattle.frame_laws.proofs.Classes.Spreading.{laid-keep}
-use Rattle.frame_laws.proofs.Classes.Halves.{Done, halves-done, flags-done, test_at}
-use Rattle.frame_laws.proofs.Classes.Halved.{Halfway, halfway, Sizes, sizes, same-number, in-count, half-shaped, double-bytes, reads, same-operands, halved-legal, halved-realised}
+use Rattle.frame_laws.proofs.Classes.Halves.{Done, halves-done, flags-done}
+use Rattle.frame_laws.proofs.Classes.Halved.{halfway, sizes, same-number, in-count, half-shaped, double-bytes, reads, same-operands, halved-legal, halved-realised}
 
 -- ---- the halves leave the control numbers
 

@@ -1,6 +1,6 @@
 -- What the operations on the halves of a register leave.
-use Rattle.std.proofs.Common.{◌≡◌, ◌≢◌, ℕ, zero, suc, ◌+◌, ◌-◌, ◌*◌, ◌/◌, ◌%◌, ◌^◌, ◌<◌, ◌≤◌, Bool, true, false, cond, ◌&&◌, eqb, ltb, leb, List, [], ◌∷◌, ◌++◌, refl, sym, ◌∙◌, ap, arith, ◌⊎◌, inl, inr, ⊎_elim}
-use Rattle.std.proofs.lemmas.Bool.{cases_lt, cases_Bool, eq-eqb, ne_eqb, lt-ltb, le-ltb, le-leb, leb-true, false≢true}
+use Rattle.std.proofs.Common.{◌≡◌, ◌≢◌, ℕ, zero, suc, ◌+◌, ◌-◌, ◌*◌, ◌/◌, ◌%◌, ◌^◌, ◌<◌, ◌≤◌, Bool, true, false, cond, eqb, leb, List, [], ◌∷◌, ◌++◌, refl, sym, ◌∙◌, ap, arith, ⊎_elim}
+use Rattle.std.proofs.lemmas.Bool.{cases_lt, cases_Bool, eq-eqb, ne_eqb, lt-ltb, le-leb, leb-true}
 use Rattle.std.proofs.lemmas.Nat.{div-mul-add, mod-mul-add}
 use Rattle.std.proofs.Math.Nat.{mul-le-mul_right}
 use Rattle.std.proofs.Math.Pow.{mod-mod-pow}
@@ -9,7 +9,7 @@ use Rattle.bit_laws.proofs.Numbers.{number-same, number-lt, number-cat}
 use Rattle.bit_rows.specs.Slices.{Slices}
 use Rattle.steer_net.specs.Moves.{rewritten, narrowed, in_part, per_row}
 use Rattle.steer_net.specs.Network.{bit_in}
-use Rattle.element_ops.specs.Elements.{Registers, element_in}
+use Rattle.element_ops.specs.Elements.{element_in}
 use Rattle.gen_shift.specs.Laws.{LeavesValue}
 use Rattle.gen_shift.specs.Rows.{is_among}
 use Rattle.micro_ir.specs.Replay.{replay}
@@ -19,13 +19,13 @@ use Rattle.micro_ir.specs.declared.op.MicroOp.{MicroOp}
 use Rattle.micro_ir.specs.declared.op.MicroOp.TheVariants.{Narrow}
 use Rattle.micro_ir.proofs.Lists.{replay-append}
 use Rattle.micro_ir.proofs.Lift.{replay-columns, element-inside}
-use Rattle.frame_laws.specs.Shapes.{Shape, first_of, element_number}
+use Rattle.frame_laws.specs.Shapes.{Shape}
 use Rattle.frame_laws.specs.Realising.{Splatted}
-use Rattle.frame_laws.specs.Classes.Operands.{Operand, group, scalar, narrow, operand_number, row_of, laid_out, is_laid_out_in, IsUnwritten}
-use Rattle.frame_laws.specs.Classes.Halved.{halves_row, doubled, Pair, Lists, narrowed_flags, LowLeft, LeavesLow, half_list, halves_list, HalfValue, HalfTest, IsHalfReadable, IsHalved, AllLeave, LeavesFlag, AllFlag}
-use Rattle.frame_laws.proofs.Elements.{rewritten-bit, InColumn, in_column, in_element, bit_place, element-placed}
+use Rattle.frame_laws.specs.Classes.Operands.{Operand, group, scalar, narrow, operand_number, row_of, laid_out, is_laid_out_in}
+use Rattle.frame_laws.specs.Classes.Halved.{halves_row, doubled, Pair, Lists, narrowed_flags, LeavesLow, half_list, halves_list, HalfValue, HalfTest, IsHalfReadable, IsHalved, AllLeave, LeavesFlag, AllFlag}
+use Rattle.frame_laws.proofs.Elements.{rewritten-bit, in_column, in_element, bit_place}
 use Rattle.frame_laws.proofs.Classes.Operands.{Agrees, operand-here}
-use Rattle.frame_laws.proofs.Classes.Spreading.{IsPresent, Laid, laid, laid-bits}
+use Rattle.frame_laws.proofs.Classes.Spreading.{IsPresent, laid, laid-bits}
 
 -- ---- numbers and bits
 

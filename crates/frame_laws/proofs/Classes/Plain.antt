@@ -1,12 +1,12 @@
 -- An instruction of operands that are as wide, or laid out, is one that the frame takes.
-use Rattle.std.proofs.Common.{◌≡◌, ◌≢◌, ℕ, ◌+◌, ◌*◌, ◌/◌, ◌%◌, ◌^◌, ◌<◌, ◌≤◌, Bool, true, false, cond, ◌&&◌, ◌||◌, eqb, ltb, List, [], ◌∷◌, ◌++◌, refl, sym, ◌∙◌, ap, arith, ◌⊎◌, inl, inr, ⊎_elim}
-use Rattle.std.proofs.lemmas.Bool.{eqb-true, eq-eqb, ne_eqb, or_cases, or_left, or_right, false≢true}
-use Rattle.bit_laws.specs.Numbers.{number, low}
+use Rattle.std.proofs.Common.{◌≡◌, ℕ, ◌+◌, ◌*◌, ◌/◌, ◌<◌, ◌≤◌, Bool, true, false, ◌||◌, List, ◌++◌, refl, sym, ◌∙◌, arith, ◌⊎◌, ⊎_elim}
+use Rattle.std.proofs.lemmas.Bool.{eqb-true, ne_eqb, or_cases, or_left, or_right, false≢true}
+use Rattle.bit_laws.specs.Numbers.{number}
 use Rattle.bit_laws.proofs.Numbers.{number-same}
 use Rattle.bit_rows.specs.Slices.{Slices}
 use Rattle.cam_chain.specs.Views.{registers_of}
 use Rattle.steer_net.specs.Network.{bit_in}
-use Rattle.element_ops.specs.Elements.{Registers, element_in, element_of, bits_of, mask_bit_of}
+use Rattle.element_ops.specs.Elements.{Registers, element_in, bits_of, mask_bit_of}
 use Rattle.micro_ir.specs.declared.op.MicroOp.{MicroOp}
 use Rattle.micro_ir.specs.Replay.{replay}
 use Rattle.micro_ir.specs.Steps.{element}
@@ -20,7 +20,7 @@ use Rattle.frame_laws.specs.Laws.{SameAt, Legal}
 use Rattle.frame_laws.specs.Bytes.{size_of}
 use Rattle.frame_laws.proofs.Registers.{frame_law}
 use Rattle.frame_laws.proofs.Bytes.{bytes_law}
-use Rattle.frame_laws.specs.Classes.Operands.{Operand, group, scalar, narrow, operand_number, operand_of, row_of, laid_out, is_laid_out_in, is_read, IsNarrower, IsReadable}
+use Rattle.frame_laws.specs.Classes.Operands.{Operand, group, scalar, narrow, operand_number, operand_of, row_of, laid_out, is_laid_out_in, is_read, IsReadable}
 use Rattle.frame_laws.proofs.Classes.Operands.{IsShaped, Agrees, whole-register, same-operand, same-here, operand-here}
 use Rattle.frame_laws.proofs.Classes.Spreading.{IsPresent, Laid, laid, laid-bits}
 use Rattle.frame_laws.specs.Classes.Plain.{Operands, Value, with_operands, plain_value, IsPlain, PlainLaw, PlainBytesLaw}

@@ -1,12 +1,12 @@
 -- The flag of an instruction of operands that are as wide, or laid out.
-use Rattle.std.proofs.Common.{◌≡◌, ℕ, ◌+◌, ◌*◌, ◌/◌, ◌%◌, ◌<◌, ◌≤◌, Bool, true, false, ◌&&◌, ◌||◌, List, ◌++◌, refl, sym, ◌∙◌, ap, arith}
+use Rattle.std.proofs.Common.{◌≡◌, ℕ, ◌+◌, ◌*◌, ◌/◌, ◌%◌, ◌<◌, Bool, ◌&&◌, List, ◌++◌, refl, sym, ◌∙◌, ap, arith}
 use Rattle.std.proofs.lemmas.Nat.{div-add-mod'}
 use Rattle.bit_laws.specs.Numbers.{number}
 use Rattle.bit_rows.specs.Slices.{Slices}
 use Rattle.cam_chain.specs.Views.{registers_of}
 use Rattle.steer_net.specs.Network.{bit_in, is_within}
 use Rattle.steer_net.specs.Moves.{per_row}
-use Rattle.element_ops.specs.Elements.{element_in, bits_of, mask_bit_of}
+use Rattle.element_ops.specs.Elements.{bits_of, mask_bit_of}
 use Rattle.element_ops.specs.Places.{is_active}
 use Rattle.fold_laws.specs.Folds.{any}
 use Rattle.fold_laws.proofs.Anys.{any-same}

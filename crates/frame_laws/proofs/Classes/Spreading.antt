@@ -1,6 +1,6 @@
 -- What lays an operand out: elements of a narrower group in a row of work, extended by their sign or by zeros.
-use Rattle.std.proofs.Common.{◌≡◌, ◌≢◌, ℕ, zero, suc, ◌+◌, ◌*◌, ◌/◌, ◌%◌, ◌^◌, ◌<◌, ◌≤◌, Bool, true, false, cond, ◌&&◌, eqb, ltb, List, [], ◌∷◌, refl, sym, ◌∙◌, ap, arith, ◌⊎◌, inl, inr, ⊎_elim}
-use Rattle.std.proofs.lemmas.Bool.{cases_lt, cases_Bool, eq-eqb, ne_eqb, lt-ltb, le-ltb, false≢true}
+use Rattle.std.proofs.Common.{◌≡◌, ◌≢◌, ℕ, zero, suc, ◌+◌, ◌*◌, ◌/◌, ◌%◌, ◌^◌, ◌<◌, ◌≤◌, Bool, true, false, cond, ◌&&◌, eqb, ltb, [], refl, sym, ◌∙◌, ap, arith, ◌⊎◌, inl, inr, ⊎_elim}
+use Rattle.std.proofs.lemmas.Bool.{cases_lt, eq-eqb, lt-ltb, le-ltb, false≢true}
 use Rattle.std.proofs.lemmas.Nat.{div-mul-add, mod-mul-add}
 use Rattle.std.proofs.Math.Nat.{mul-le-mul_right}
 use Rattle.bit_laws.specs.Numbers.{number}
@@ -15,7 +15,6 @@ use Rattle.gen_shift.proofs.Extension.{extends-sign}
 use Rattle.gen_shift.specs.Laws.{ExtendsSign}
 use Rattle.micro_ir.specs.Replay.{replay, all_keep_control}
 use Rattle.micro_ir.specs.Steps.{element}
-use Rattle.micro_ir.specs.WorkRows.{scalar_row}
 use Rattle.micro_ir.proofs.Keeping.{micros-keep}
 use Rattle.micro_ir.proofs.Lift.{replay-columns}
 use Rattle.frame_laws.specs.Shapes.{Shape, element_number}

@@ -11,7 +11,7 @@ use Rattle.micro_ir.specs.Replay.{effect, replay}
 use Rattle.micro_ir.specs.Steps.{micros}
 use Rattle.micro_ir.specs.WorkRows.{active_row, truth_row, free_row}
 use Rattle.micro_ir.proofs.Lists.{replay-append}
-use Rattle.micro_ir.proofs.Lift.{replay-columns, element-inside}
+use Rattle.micro_ir.proofs.Lift.{replay-columns}
 use Rattle.micro_ir.specs.Pieces.{splat}
 use Rattle.frame_laws.specs.Shapes.{Shape, Bounds, Bounded, first_of}
 use Rattle.frame_laws.specs.Programs.{active_window, mask_window}

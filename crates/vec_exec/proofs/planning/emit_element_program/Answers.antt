@@ -6,7 +6,8 @@ use Rattle.frame_meaning.specs.Costs.{length_of as program_length}
 use Rattle.frame_meaning.specs.Shapes.{has_scalar}
 use Rattle.vec_exec.specs.Programs.{width_of, count_of}
 use Rattle.vec_exec.proofs.Fits.{fitted}
-use Rattle.vec_exec.proofs.Planned.{plans, elements-fine, elements-program, elements-measured, halves-for, reads-for}
+use Rattle.vec_exec.proofs.Chosen.{halves-for, reads-for}
+use Rattle.vec_exec.proofs.Planned.{plans, elements-fine, elements-program, elements-measured}
 use Rattle.vec_exec.proofs.Placed.{valid-length}
 use Rattle.vec_exec.proofs.Written.{width-most, flag-few, registers-few}
 use Rattle.vec_exec.proofs.planning.emit_element_program.Goals as goal

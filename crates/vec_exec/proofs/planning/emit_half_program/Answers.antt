@@ -4,7 +4,8 @@ use Rattle.legal_groups.proofs.Widths.{width-least}
 use Rattle.frame_meaning.specs.Costs.{length_of as program_length}
 use Rattle.frame_meaning.specs.Shapes.{has_scalar}
 use Rattle.vec_exec.proofs.Fits.{fitted}
-use Rattle.vec_exec.proofs.Planned.{half-plans, halves-fine, halves-program, halves-measured, halves-for, reads-for}
+use Rattle.vec_exec.proofs.Chosen.{halves-for, reads-for}
+use Rattle.vec_exec.proofs.Planned.{half-plans, halves-fine, halves-program, halves-measured}
 use Rattle.vec_exec.proofs.Placed.{valid-length, half-wide}
 use Rattle.vec_exec.proofs.Written.{width-most, flag-few, half-registers-few}
 use Rattle.vec_exec.proofs.planning.emit_half_program.Goals as goal

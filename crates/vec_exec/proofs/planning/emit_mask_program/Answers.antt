@@ -6,7 +6,8 @@ use Rattle.frame_meaning.specs.Shapes.{has_scalar}
 use Rattle.rvv_meaning.specs.Elementwise.{is_ones}
 use Rattle.vec_exec.proofs.Fits.{fitted}
 use Rattle.frame_meaning.specs.Masks.{compare_length_of}
-use Rattle.vec_exec.proofs.Planned.{mask-plans, mask-width, bits-fine, bits-program, bits-measured, bits-for, reads-for}
+use Rattle.vec_exec.proofs.Chosen.{mask-width, bits-for, reads-for}
+use Rattle.vec_exec.proofs.Planned.{mask-plans, bits-fine, bits-program, bits-measured}
 use Rattle.vec_exec.proofs.Placed.{valid-length}
 use Rattle.vec_exec.proofs.Written.{sew-count, width-most, flag-few, fill-parts, mask-registers-few}
 use Rattle.vec_exec.proofs.planning.emit_mask_program.Goals as goal

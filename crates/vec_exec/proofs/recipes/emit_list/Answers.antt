@@ -1,5 +1,5 @@
 use Rattle.std.proofs.Common.{◌≡◌, ◌<◌, Bool, true, false, ◌||◌, refl, sym, arith}
-use Rattle.vec_exec.specs.Recipes.{FitsRows, list_of, counts_of, length_of, Computes}
+use Rattle.vec_exec.specs.Recipes.{FitsRows, list_of, counts_of, length_of, Computes, TellsClips}
 use Rattle.vec_exec.proofs.Copied.{copied, copied-measured}
 use Rattle.vec_exec.proofs.Widths.{log2-is}
 use Rattle.vec_exec.proofs.recipes.emit_list.Goals as goal
@@ -119,6 +119,44 @@ emit_rounded-requires-clause-a g c = let rows : FitsRows c.args.list c.args.at.n
 
 pub emit_rounded-requires-clause-b : goal.emit_rounded-requires-clause-b
 emit_rounded-requires-clause-b g c = let rows : FitsRows c.args.list c.args.at.now.a c.args.at.now.b = c.requires.rows in (rw c.in-Roundings.is at rows).1
+
+pub emit_saturating-requires-clause-a : goal.emit_saturating-requires-clause-a
+emit_saturating-requires-clause-a g c = let rows : FitsRows c.args.list c.args.at.now.a c.args.at.now.b = c.requires.rows in (rw c.in-Saturations.is at rows).0
+
+pub emit_saturating-requires-clause-b : goal.emit_saturating-requires-clause-b
+emit_saturating-requires-clause-b g c = let rows : FitsRows c.args.list c.args.at.now.a c.args.at.now.b = c.requires.rows in (rw c.in-Saturations.is at rows).1
+
+pub returns-in-Saturations-clause-computes : goal.returns-in-Saturations-clause-computes
+unfolding Computes list_of
+returns-in-Saturations-clause-computes g c = rw c.in-Saturations.is (c.emit_saturating.ensures.realises false)
+
+pub returns-in-Saturations-clause-tells : goal.returns-in-Saturations-clause-tells
+unfolding TellsClips list_of
+returns-in-Saturations-clause-tells g c = rw c.in-Saturations.is c.emit_saturating.ensures.clips
+
+pub emit_average-requires-clause-a : goal.emit_average-requires-clause-a
+emit_average-requires-clause-a g c = let rows : FitsRows c.args.list c.args.at.now.a c.args.at.now.b = c.requires.rows in rw c.with_difference-with.ensures (rw c.in-Averages.is at rows).0
+
+pub emit_average-requires-clause-b : goal.emit_average-requires-clause-b
+emit_average-requires-clause-b g c = let rows : FitsRows c.args.list c.args.at.now.a c.args.at.now.b = c.requires.rows in rw c.with_difference-with.ensures (rw c.in-Averages.is at rows).1
+
+pub returns-in-Averages-clause-computes : goal.returns-in-Averages-clause-computes
+unfolding Computes list_of
+returns-in-Averages-clause-computes g c = rw c.in-Averages.is (rw c.with_difference-with.ensures at (c.emit_average.ensures.realises false))
+
+pub emit_smul-requires-clause-a : goal.emit_smul-requires-clause-a
+emit_smul-requires-clause-a g c = let rows : FitsRows c.args.list c.args.at.now.a c.args.at.now.b = c.requires.rows in (rw c.in-Fractions.is at rows).0
+
+pub emit_smul-requires-clause-b : goal.emit_smul-requires-clause-b
+emit_smul-requires-clause-b g c = let rows : FitsRows c.args.list c.args.at.now.a c.args.at.now.b = c.requires.rows in (rw c.in-Fractions.is at rows).1
+
+pub returns-in-Fractions-clause-computes : goal.returns-in-Fractions-clause-computes
+unfolding Computes list_of
+returns-in-Fractions-clause-computes g c = rw c.in-Fractions.is (c.emit_smul.ensures.realises false)
+
+pub returns-in-Fractions-clause-tells : goal.returns-in-Fractions-clause-tells
+unfolding TellsClips list_of
+returns-in-Fractions-clause-tells g c = rw c.in-Fractions.is c.emit_smul.ensures.clips
 
 pub emit_commit-requires-clause-row : goal.emit_commit-requires-clause-row
 emit_commit-requires-clause-row g c = let rows : FitsRows c.args.list c.args.at.now.a c.args.at.now.b = c.requires.rows in

@@ -2,10 +2,10 @@ use Rattle.std.proofs.Common.{ℕ, ◌≤◌, ◌+◌, ◌*◌, refl, arith}
 use Rattle.std.proofs.lemmas.Nat.{mul-le}
 use Rattle.rvv_meaning.specs.Operations.{log2}
 use Rattle.vec_exec.specs.declared.recipes.Listed.{Listed}
-use Rattle.vec_exec.specs.declared.recipes.Listed.TheVariants.{Bits, Sums, Truths, Choices, Shifts, Products, Roundings, Divisions, Copies, Halves}
+use Rattle.vec_exec.specs.declared.recipes.Listed.TheVariants.{Bits, Sums, Truths, Choices, Shifts, Products, Fractions, Roundings, Averages, Saturations, Divisions, Copies, Halves}
 use Rattle.vec_exec.specs.Recipes.{shift_of, length_of}
 use Rattle.vec_exec.proofs.Widths.{log2-small}
-use Rattle.vec_exec.proofs.Written.{mode-few, half-list-few}
+use Rattle.vec_exec.proofs.Written.{mode-few, smul-few, half-list-few}
 use Rattle.vec_exec.proofs.recipes.list_length_law.Goals as goal
 
 pub returns : goal.returns
@@ -25,6 +25,9 @@ returns c = few
         let each : 3 * w + 15 ≤ 111 = omega arith in
         let stages : log2 w * (3 * w + 15) ≤ 5 * 111 = mul-le (log2 w) (3 * w + 15) 5 111 (log2-small w) each in
         omega (arith, stages, c.shift_length_law.ensures (shift_of right) w (log2 w), mode-few mode w (log2 w) most (log2-small w))
+    few Fractions w mode most = smul-few mode w most
+    few (Averages kind sub) w mode most = omega (arith, c.fixed_length_law.ensures.averages mode w)
+    few (Saturations kind) w mode most = omega (arith, c.fixed_length_law.ensures.sums kind w)
     few (Products kind) w mode most =
         let each : 20 * w + 61 ≤ 701 = omega arith in
         let rounds : w * (20 * w + 61) ≤ 32 * 701 = mul-le w (20 * w + 61) 32 701 most each in
