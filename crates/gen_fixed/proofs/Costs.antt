@@ -99,9 +99,9 @@ average-measured sign sub mode (suc n) a b to some register = by (is_down mode)
 -- the length of the parts
 pub average-size : (mode w : ℕ) → average_length mode w ≡ (11 * w + 12) + (cond (is_down mode) 0 (6 * w + 3) + 4)
 average-size mode w = elim (is_down mode) as (λ (b : Bool). cond b (11 * w + 16) (17 * w + 19) ≡ (11 * w + 12) + (cond b 0 (6 * w + 3) + 4)) [
-    | true ↦ omega arith
-    | false ↦ omega arith
-  ]
+  | true ↦ omega arith
+  | false ↦ omega arith
+]
 
 -- ---- sums and differences that are clipped
 
@@ -214,9 +214,9 @@ unsigned-size true w some = omega arith
 -- no list is longer
 pub average-few : (mode w : ℕ) → average_length mode w ≤ 17 * w + 19
 average-few mode w = elim (is_down mode) as (λ (b : Bool). cond b (11 * w + 16) (17 * w + 19) ≤ 17 * w + 19) [
-    | true ↦ omega arith
-    | false ↦ omega arith
-  ]
+  | true ↦ omega arith
+  | false ↦ omega arith
+]
 
 pub saturating-few : (kind : Saturating) (w : ℕ) → saturating_length kind w ≤ 17 * w + 19
 saturating-few Saddu w = omega arith

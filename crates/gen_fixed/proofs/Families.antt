@@ -45,9 +45,9 @@ use Rattle.gen_fixed.proofs.Fits.{averaging-fits, saturating-fits}
 
 average-past : (mode : ℕ) → scalar_row < average_row mode
 average-past mode = elim (eqb mode 2) as (λ (b : Bool). scalar_row < cond b moved_row result_row) [
-    | true ↦ omega arith
-    | false ↦ omega arith
-  ]
+  | true ↦ omega arith
+  | false ↦ omega arith
+]
 
 average-realises : (sign sub : Bool) (mode w a b to : ℕ) (reads : Bool) → 1 < w → IsOperandRow a → IsOperandRow b → to < 32
     → Realises w to reads (λ n c. low_int w (rounded mode (exact sign sub w (n a) (n b)) 1)) (micros w (averaging (carries_of sub) (beyond_on sign sub) mode w a b ++ commit w (average_row mode) to))

@@ -55,8 +55,7 @@ low-stays lanes n some few = record { top = omega arith; low = omega arith; near
 
 pub bounded-fits : (lanes w row out : ℕ) → 0 < w → w ≤ lanes → AllFit lanes (bounded lanes w row out)
 bounded-fits lanes w row out some few =
-    let rows : List ℕ = overflow_row ∷ broadcast_row ∷ row ∷ [] in
-    (
+    let rows : List ℕ = overflow_row ∷ broadcast_row ∷ row ∷ [] in (
       clear-fits lanes out,
       (
         ranged-fits lanes rows (1 ∷ 4 ∷ 5 ∷ 6 ∷ []) out (low_range (w - 1)) (low-stays lanes (w - 1) (omega arith) (omega arith)) (inr (refl, refl)),

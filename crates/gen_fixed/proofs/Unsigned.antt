@@ -140,4 +140,3 @@ unsigned-on sub (suc n) a b e a_off b_off some =
           ∙ picked w k (not sub) t ∙ r.value;
       told = λ i l. s.told i l ∙ same ∙ r.clip;
     }
-

@@ -38,7 +38,14 @@ pub(crate) fn emit_beyond<W: Width>(buf: &mut MicroBuf, a: u8, b: u8, sign: bool
     emit_clear(buf, TOTAL_ROW);
     emit_clear(buf, TRUTH_ROW);
     emit_ripple::<W>(buf, &inputs, &ODD, carries(sub), TOTAL_ROW);
-    emit_above::<W>(buf, &inputs, beyond(sign, sub), TRUTH_ROW, W::BITS as u8 - 1, 0);
+    emit_above::<W>(
+        buf,
+        &inputs,
+        beyond(sign, sub),
+        TRUTH_ROW,
+        W::BITS as u8 - 1,
+        0,
+    );
 }
 
 // The digits alone.
@@ -66,7 +73,14 @@ pub(crate) fn emit_overflow<W: Width>(buf: &mut MicroBuf, a: u8, b: u8, sub: boo
 {
     let last = W::BITS as u8 - 1;
     emit_clear(buf, OVERFLOW_ROW);
-    emit_above::<W>(buf, &[a, b, TOTAL_ROW], overflow(sub), OVERFLOW_ROW, last, 0);
+    emit_above::<W>(
+        buf,
+        &[a, b, TOTAL_ROW],
+        overflow(sub),
+        OVERFLOW_ROW,
+        last,
+        0,
+    );
     emit_downs::<W>(buf, OVERFLOW_ROW, last);
 }
 
