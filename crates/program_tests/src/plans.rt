@@ -340,7 +340,7 @@ fn program_of(alloc: Global, row: &Row) -> Result<MicroBuf, Fail> {
         policy: row.policy,
     };
     let i = decode_v(row.word).ok_or("a vector word")?;
-    if !is_planned(i.op) {
+    if !engine(&i) || !is_planned(i.op) {
         return Err("an instruction of the table".into());
     }
     if !legal(&i, &cfg.vtype, cfg.vstart, cfg.vlen) {
