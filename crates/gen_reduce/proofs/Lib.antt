@@ -1,0 +1,4 @@
+-- What the lists cost, and what they compute.
+pub mod Costs
+pub mod Firsts
+pub mod MaskLaws

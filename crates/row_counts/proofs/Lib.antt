@@ -1,0 +1,7 @@
+-- The lists, as they are written, what they cost, widths, and what counts make of rows and numbers.
+pub mod Written
+pub mod Costs
+pub mod Widths
+pub mod Rows
+pub mod Taken
+pub mod Sums
