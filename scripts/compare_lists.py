@@ -3,6 +3,8 @@
     compare_lists.py ask                           writes the lines that library_probe is asked
     compare_lists.py hashes TOLD HASHES            compares lengths and hashes with a list of them
     compare_lists.py guests MODEL FOLDER TOLD      compares lists with those of one instruction each, some with equal operands
+    compare_lists.py ask_fixed                     writes the lines that plan_listing is asked of the kinds in fixed point
+    compare_lists.py fixed TOLD HASHES             compares the lists in its programs with the hashes, in each rounding mode
 """
 
 import os
@@ -75,9 +77,22 @@ MOST_MULTIPLYING = 23000
 BEFORE = re.compile(rf"window .*|search \w+ 0|update \w+ {SCALAR_ROW} [01]")
 BEFORE_EXTENSION = re.compile(r"window .*|spread .*")
 AFTER = re.compile(r"packmask .*")
+WINDOW = re.compile(r"window .*")
 # What follows a shift without a commit, and what follows an extension: the commit of its row.
 NARROWED = re.compile(r"narrow .*")
 COMMITTED = re.compile(rf"search \w+ 32=1 {RESULT_ROW}=[01] 0|update \w+ {TO} [01]")
+# The kinds in fixed point: the name and the sub of the hash, and the funct6 and the f3 of the word with two registers. The
+# lists of the first ones depend on the rounding mode, those of the others do not.
+ROUNDING = {
+    ("ssrl", 0): (42, 0), ("ssra", 0): (43, 0), ("smul", 0): (39, 0), ("avgu", 0): (8, 2), ("avg", 0): (9, 2),
+    ("avgu", 1): (10, 2), ("avg", 1): (11, 2),
+}
+CLIPPING = {("saddu", 0): (32, 0), ("sadd", 0): (33, 0), ("ssubu", 0): (34, 0), ("ssub", 0): (35, 0)}
+FIXED = ROUNDING | CLIPPING
+MODES = range(4)
+# A vector type with one register, whose agnostic elements stay, and the bits of a register.
+FIXED_TYPE = 0x00
+FIXED_VLEN = 128
 # vsetivli with a length of 2, into x1
 SET_TYPE = 0xC00170D7
 
@@ -118,13 +133,13 @@ def hash_of(lines):
     return f"{value:016x}"
 
 
-def known_hashes(path):
+def known_hashes(path, mode=0, sub=0):
     """The length and the hash of each list that is known, by the name of its kind in lower case and its width."""
     known = {}
     with open(path) as file:
         for line in file:
             words = line.split()
-            if words[2:6] == ["prof1", "mode0", "sub0", "ops"]:
+            if words[2:6] == ["prof1", f"mode{mode}", f"sub{sub}", "ops"]:
                 known[words[0].lower(), int(words[1][1:])] = int(words[6]), words[-1]
     return known
 
@@ -155,6 +170,42 @@ def compare_hashes(told_path, hashes_path):
         else:
             different.append(f"{question(kind, width, rows)}: {ours}, and the model: {theirs}")
     finish("hashes of lists", same, different)
+
+
+def fixed_questions():
+    """A kind in fixed point with its sub, a width and a rounding mode, in the order of the lines."""
+    return [(kind, width, mode) for kind in FIXED for width in WIDTHS for mode in MODES]
+
+
+def ask_fixed():
+    for kind, width, mode in fixed_questions():
+        funct6, f3 = FIXED[kind]
+        word = funct6 << 26 | 1 << 25 | APART[0] << 20 | APART[1] << 15 | f3 << 12 | TO << 7 | 0x57
+        vtype = FIXED_TYPE | (width.bit_length() - 4) << 3
+        print(f"{word:08x} {vtype:x} {FIXED_VLEN // width} 0 {FIXED_VLEN} {mode} keep 0")
+
+
+def told_programs(path):
+    """The operations of each program that is told, without the windows, which are all that the frame adds to two registers."""
+    with open(path) as file:
+        lines = iter(file.read().splitlines())
+    for header in lines:
+        if not header.startswith("plan "):
+            sys.exit(f"no program: {header!r}")
+        program = [next(lines, "") for _ in range(int(header.split()[1]))]
+        yield [line for line in program if not WINDOW.fullmatch(line)]
+
+
+def compare_fixed(told_path, hashes_path):
+    different = []
+    asked = fixed_questions()
+    for ((name, sub), width, mode), lines in zip(asked, told_programs(told_path), strict=True):
+        known = known_hashes(hashes_path, mode if (name, sub) in ROUNDING else 0, sub)
+        ours = len(lines), hash_of(lines)
+        theirs = known.get((name, width))
+        if ours != theirs:
+            different.append(f"{name} sub {sub} width {width} mode {mode}: {ours}, and the model: {theirs}")
+    finish("hashes of lists in fixed point", len(asked) - len(different), different)
 
 
 def multiplying_word(kind, a, b):
@@ -262,5 +313,9 @@ if __name__ == "__main__":
         ask()
     elif sys.argv[1] == "hashes":
         compare_hashes(*sys.argv[2:4])
+    elif sys.argv[1] == "ask_fixed":
+        ask_fixed()
+    elif sys.argv[1] == "fixed":
+        compare_fixed(*sys.argv[2:4])
     else:
         compare_guests(*sys.argv[2:5])

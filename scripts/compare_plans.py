@@ -11,8 +11,10 @@ import sys
 
 from guest import SETTINGS, image, load
 
-# How many questions each operation in each form has, and the seed of the numbers that they are drawn by.
+# How many questions each operation in each form has, how many rounding modes these have in turn, and the seed of the numbers
+# that they are drawn by.
 QUESTIONS = 16
+MODES = 4
 SEED = 16
 # No longer program is compared, and none of more registers than one is asked for where one register takes so long.
 MOST_OPERATIONS = 60000
@@ -61,14 +63,15 @@ def questions():
     for forms in (OPI_FORMS, OPM_FORMS):
         for form in forms:
             for funct6 in range(64):
-                for _ in range(QUESTIONS * len(operations_of(funct6, form))):
+                for number in range(QUESTIONS * len(operations_of(funct6, form))):
                     vtype = setting_of(draw, funct6, form)
                     vlen = draw.choice(LENGTHS)
                     most = most_elements(vtype, vlen)
                     vl = draw.choice([most, draw.randrange(most + 1)])
                     vstart = draw.choice([0, 0, 0, draw.randrange(vl + 1)]) % vlen
                     policy = draw.choice(["keep", "ones"])
-                    yield word_of(draw, funct6, form), vtype, vl, vstart, vlen, draw.randrange(4), policy, draw.getrandbits(32)
+                    vxrm = number % MODES
+                    yield word_of(draw, funct6, form), vtype, vl, vstart, vlen, vxrm, policy, draw.getrandbits(32)
 
 
 def most_elements(vtype, vlen):

@@ -1,4 +1,4 @@
-"""Makes random programs of vector instructions on integers, and compares their last states with the executable model's.
+"""Makes random programs of vector instructions on integers and in fixed point, and compares their last states with the executable model's.
 
     compare_vectors.py compare CAPE MODEL FOLDER FIRST LAST   compares the programs of the seeds
     compare_vectors.py image SEED FILE                        writes one program, and shows its options
@@ -36,7 +36,17 @@ class Kind(typing.NamedTuple):
 
 EITHER, ALWAYS, NEVER = [0, 0, 0, 1, 1], [0], [1]
 MOVE, MERGE = Kind(23, FORMS, NEVER), Kind(23, FORMS, ALWAYS)
+# The operations in fixed point. Where a product of fractions lacks a form, the word moves whole registers.
+FRACTIONS = Kind(39, [V, X], EITHER)  # vsmul
+FIXED = [
+    *(Kind(funct6, FORMS, EITHER) for funct6 in (32, 33)),  # vsaddu, vsadd
+    *(Kind(funct6, [V, X], EITHER) for funct6 in (34, 35)),  # vssubu, vssub
+    *(Kind(funct6, FORMS, EITHER) for funct6 in (42, 43)),  # vssrl, vssra
+    *(Kind(funct6, [V, X], EITHER, f3=PRODUCT) for funct6 in (8, 9, 10, 11)),  # vaaddu, vaadd, vasubu, vasub
+    FRACTIONS,
+]
 KINDS = [
+    *FIXED,
     *(Kind(funct6, FORMS, EITHER) for funct6 in (0, 9, 10, 11)),  # vadd, vand, vor, vxor
     *(Kind(funct6, [V, X], EITHER) for funct6 in (2, 4, 5, 6, 7)),  # vsub, vminu, vmin, vmaxu, vmax
     Kind(3, [X, I], EITHER),  # vrsub
@@ -82,7 +92,7 @@ RESIZED = [
 MASK_KINDS = [kind for kind in KINDS if kind.writes_mask]
 # The kinds that have a masked word and do not write a mask, and those that lack a form or a value of vm.
 MASKED_KINDS = [kind for kind in KINDS if 0 in kind.unmasked and not kind.writes_mask]
-FORM_LESS = [kind for kind in KINDS if len(kind.forms) < len(FORMS) and kind.f3 != PRODUCT]
+FORM_LESS = [kind for kind in KINDS if len(kind.forms) < len(FORMS) and kind.f3 != PRODUCT and kind != FRACTIONS]
 MASK_LESS = [kind for kind in KINDS if kind.unmasked == ALWAYS and kind != MERGE]
 # The funct6 that no OPI word has, and the f3 of the forms on floating-point numbers, which do not exist here.
 NO_ROW = [8, 13, 20, 21, 22, 36, 38]
@@ -92,7 +102,9 @@ E32_M1, E8_M8 = 0x10, 0x03
 # Vector types that are not supported: SEW 32 with LMUL 1/2, 1/4 and 1/8, SEW 16 with LMUL 1/4, SEW 64, the reserved
 # LMUL, and bits above the lowest eight, of which a register can name more.
 UNSUPPORTED = [0x17, 0x16, 0x15, 0x0E, 0x18, 0x04, 0x100, 0x400, 0x80000010]
-VSTART = 0x008
+VSTART, VXSAT, VXRM, VCSR = 0x008, 0x009, 0x00A, 0x00F
+# The funct6 of the move of the first element into a scalar register.
+TO_SCALAR = 16
 MOST = 0xFFFFFFFF
 EXIT = 93
 ECALL = 0x00000073
@@ -132,9 +144,13 @@ def branch_below(rs1, rs2, offset):
     return high | rs2 << 20 | rs1 << 15 | 6 << 12 | (offset >> 1 & 0xF) << 8 | 0x63
 
 
+def csr_word(csr, source, f3, rd=0):
+    return csr << 20 | source << 15 | f3 << 12 | rd << 7 | 0x73
+
+
 def set_first(register):
     """csrrw x0, vstart, register"""
-    return VSTART << 20 | register << 15 | 1 << 12 | 0x73
+    return csr_word(VSTART, register, 1)
 
 
 def vector_word(funct6, unmasked, vs2, vs1, f3, vd):
@@ -325,6 +341,35 @@ class Program:
         vd = self.destination(kind, unmasked, form, vs2, vs1)
         return kind.word(unmasked, 0 if kind == MOVE else vs2, vs1, form, vd)
 
+    def fixed_word(self):
+        """A legal word of one of the kinds in fixed point, often under a rounding mode and a flag that are written before."""
+        rng = self.rng
+        if rng.random() < 0.6:
+            self.rounding()
+        if rng.random() < 0.4:
+            self.words.append(csr_word(VXSAT, rng.choice([0, 0, 0, 1]), 5))
+        kind = rng.choice(FIXED)
+        form, vs2, vs1 = self.sources(kind)
+        unmasked = rng.choice(kind.unmasked)
+        return kind.word(unmasked, vs2, vs1, form, self.destination(kind, unmasked, form, vs2, vs1))
+
+    def rounding(self):
+        """Writes the rounding mode: by an immediate, or by the low bits of a register, and sometimes together with the flag."""
+        rng = self.rng
+        mode = rng.getrandbits(2)
+        way = rng.random()
+        if way < 0.5:
+            self.words.append(csr_word(VXRM, mode, 5))
+        elif way < 0.8:
+            self.words += load(FROM, rng.choice([mode, rng.getrandbits(30) << 2 | mode])) + [csr_word(VXRM, FROM, 1)]
+        else:
+            self.words.append(csr_word(VCSR, mode << 1 | rng.getrandbits(1), 5, rng.choice(LENGTHS)))
+
+    def number_word(self):
+        """The first element of any register into a scalar register, under any length and first element."""
+        rng = self.rng
+        return vector_word(TO_SCALAR, 1, rng.randrange(32), 0, V | PRODUCT, rng.choice([*LENGTHS, *SCALARS[1:]]))
+
     def has_width(self, quarters):
         """Whether elements of so many quarters of the present width exist, and their groups."""
         return 32 <= sew(self.vtype) * quarters <= 128 and 2 <= lmul(self.vtype) * quarters <= 128
@@ -428,8 +473,16 @@ class Program:
             self.corners()
         if rng.random() < 0.5:
             self.start()
-        resizes = rng.random() < 0.25 and self.resized_kinds()
-        self.words.append(self.resized_word(True) if resizes else self.any_word())
+        way = rng.random()
+        if way < 0.2 and self.resized_kinds():
+            word = self.resized_word(True)
+        elif way < 0.5:
+            word = self.fixed_word()
+        elif way < 0.56:
+            word = self.number_word()
+        else:
+            word = self.any_word()
+        self.words.append(word)
 
     def illegal(self):
         """An illegal word, with what makes it illegal before it."""
@@ -482,7 +535,7 @@ class Program:
         if self.rng.random() < 0.5:
             self.words += load(FROM, self.rng.randrange(self.vlen)) + [set_first(FROM)]
         self.vtype = E8_M8
-        return self.any_word()
+        return self.number_word() if self.rng.random() < 0.1 else self.any_word()
 
     def two_sources(self):
         """A move that names a second source."""
