@@ -60,10 +60,10 @@ bounded-below w t false small =
 
 -- ---- with signs
 
-less : (x y p q : ℕ) → int_lt (pos x -ℤ pos p) (pos y -ℤ pos q) ≡ ltb (x + q) (y + p)
+pub less : (x y p q : ℕ) → int_lt (pos x -ℤ pos p) (pos y -ℤ pos q) ≡ ltb (x + q) (y + p)
 less x y p q = grind (arith, ints)
 
-less-pos : (x y p : ℕ) → int_lt (pos x -ℤ pos p) (pos y) ≡ ltb x (y + p)
+pub less-pos : (x y p : ℕ) → int_lt (pos x -ℤ pos p) (pos y) ≡ ltb x (y + p)
 less-pos x y p = grind (arith, ints)
 
 pub low-sign : (w : ℕ) (f : ℕ → Bool) (k : Bool) → low_int w (with_sign w f k) ≡ number w f
@@ -104,17 +104,17 @@ clip-cases n h false false l =
 abbrev pub clip_bits : (n : ℕ) (v s : Bool) (t : ℕ → Bool) → ℕ → Bool
 clip_bits n v s t i = cond (ltb i n) (cond v (not s) (t i)) (cond v s (t i))
 
-least_sign : (h : ℕ) → pos (0 + h) -ℤ pos (h * 2) ≡ pos 0 -ℤ pos h
+pub least_sign : (h : ℕ) → pos (0 + h) -ℤ pos (h * 2) ≡ pos 0 -ℤ pos h
 least_sign h = omega (arith, ints)
 
-most_sign : (h : ℕ) → 0 < h → pos (h - 1 + 0) -ℤ pos 0 ≡ pos h -ℤ pos 1
+pub most_sign : (h : ℕ) → 0 < h → pos (h - 1 + 0) -ℤ pos 0 ≡ pos h -ℤ pos 1
 most_sign h some = omega (arith, ints)
 
-low-number : (n : ℕ) (v s : Bool) (t : ℕ → Bool) → number n (clip_bits n v s t) ≡ cond v (number n (λ i. not s)) (number n t)
+pub low-number : (n : ℕ) (v s : Bool) (t : ℕ → Bool) → number n (clip_bits n v s t) ≡ cond v (number n (λ i. not s)) (number n t)
 low-number n true s t = number-same n (clip_bits n true s t) (λ i. not s) (λ i l. rw (lt-ltb i n l) refl)
 low-number n false s t = number-same n (clip_bits n false s t) t (λ i l. rw (lt-ltb i n l) refl)
 
-top-bit : (n : ℕ) (v s : Bool) (t : ℕ → Bool) → clip_bits n v s t n ≡ cond v s (t n)
+pub top-bit : (n : ℕ) (v s : Bool) (t : ℕ → Bool) → clip_bits n v s t n ≡ cond v s (t n)
 top-bit n v s t = rw (le-ltb n n (omega arith)) refl
 
 -- those bits are the clipped number's, whose sign is k

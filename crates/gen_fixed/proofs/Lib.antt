@@ -10,4 +10,7 @@ pub mod Fits
 pub mod Families
 pub mod Costs
 pub mod Written
-pub mod Modes
+pub mod Narrowing
+pub mod Wide
+pub mod Leaving
+pub mod WideCosts

@@ -41,7 +41,7 @@ or_no : (b : Bool) → b || false ≡ b
 or_no true = refl
 or_no false = refl
 
-as_found : (b : Bool) → cond b true false ≡ b
+pub as_found : (b : Bool) → cond b true false ≡ b
 as_found true = refl
 as_found false = refl
 
@@ -81,7 +81,7 @@ unsigned-bits sub w a b e a_off b_off some =
     })
 
 -- where there is a bit beyond, a sum is all ones and a difference all zeros
-bound-found : (sub t k : Bool) → hit (bound_on sub) (t ∷ k ∷ []) ≡ cond k (not sub) t
+pub bound-found : (sub t k : Bool) → hit (bound_on sub) (t ∷ k ∷ []) ≡ cond k (not sub) t
 bound-found false true true = refl
 bound-found false true false = refl
 bound-found false false true = refl
@@ -91,7 +91,7 @@ bound-found true true false = refl
 bound-found true false true = refl
 bound-found true false false = refl
 
-picked : (w : ℕ) (k c : Bool) (t : ℕ → Bool) → number w (λ i. cond k c (t i)) ≡ cond k (number w (λ i. c)) (number w t)
+pub picked : (w : ℕ) (k c : Bool) (t : ℕ → Bool) → number w (λ i. cond k c (t i)) ≡ cond k (number w (λ i. c)) (number w t)
 picked w true c t = refl
 picked w false c t = refl
 
