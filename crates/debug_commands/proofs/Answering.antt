@@ -60,27 +60,33 @@ module _ (bs : List ℕ) (k : ℕ) {h h' : Held} {d : DeskValue} {l l' o o' e e'
   pub goes_advanced : {o'' : Option (List ℕ)} → GoesBy (stepped bs k) silent (scene (record h { core = resumed h.core }) d l o e) (scene h' d l' o' e') → Appends o' o'' (place_text h'.core)
       → GoesBy (advanced bs k) (place_after bs k) (scene h d l o e) (scene h' d l' o'' e')
   unfolding stepped advanced place_after
-  goes_advanced {o''} goes put = record { leads = λ s fe at.
-      let w = goes.leads (moved (resumed_moment s.moment) s) fe (resumed_at at) in
-      let text = (steps true bs k (resumed_moment s.moment)).state.core in
-      (same_at w.0, Appends-trans o o' o'' [] (place_text text) w.1 (rw w.0.holds put)) }
+  goes_advanced {o''} goes put = record {
+    leads = λ s fe at.
+        let w = goes.leads (moved (resumed_moment s.moment) s) fe (resumed_at at) in
+        let text = (steps true bs k (resumed_moment s.moment)).state.core in
+        (same_at w.0, Appends-trans o o' o'' [] (place_text text) w.1 (rw w.0.holds put));
+  }
 
   pub put_fails : {o'' : Option (List ℕ)} → GoesBy (stepped bs k) silent (scene (record h { core = resumed h.core }) d l o e) (scene h' d l' o' e') → AppendsPrefix o' o'' (place_text h'.core)
       → FaultsIn (advanced bs k) (place_after bs k) (scene h d l o e) (scene h' d l' o'' e')
   unfolding stepped advanced place_after
-  put_fails {o''} goes put = record { leaves = λ s fe at.
-      let w = goes.leads (moved (resumed_moment s.moment) s) fe (resumed_at at) in
-      let m = steps true bs k (resumed_moment s.moment) in
-      let f = prefix_gained o' o'' (place_text m.state.core) (rw w.0.holds put) in
-      ((f.0, Appends-trans o o' o'' [] f.0 w.1 f.1, f.2), whole_gained fe e' m.state.joint w.0.gained) }
+  put_fails {o''} goes put = record {
+    leaves = λ s fe at.
+        let w = goes.leads (moved (resumed_moment s.moment) s) fe (resumed_at at) in
+        let m = steps true bs k (resumed_moment s.moment) in
+        let f = prefix_gained o' o'' (place_text m.state.core) (rw w.0.holds put) in
+        ((f.0, Appends-trans o o' o'' [] f.0 w.1 f.1, f.2), whole_gained fe e' m.state.joint w.0.gained);
+  }
 
   pub advance_fails : FaultsIn (stepped bs k) silent (scene (record h { core = resumed h.core }) d l o e) (scene h' d l' o' e')
       → FaultsIn (advanced bs k) (place_after bs k) (scene h d l o e) (scene h' d l' o' e')
   unfolding stepped advanced place_after
-  advance_fails faults = record { leaves = λ s fe at.
-      let f = faults.leaves (moved (resumed_moment s.moment) s) fe (resumed_at at) in
-      let text = place_text (steps true bs k (resumed_moment s.moment)).state.core in
-      ((f.0.0, f.0.1, prefix_through f.0.0 [] text f.0.2 (text, refl)), f.1) }
+  advance_fails faults = record {
+    leaves = λ s fe at.
+        let f = faults.leaves (moved (resumed_moment s.moment) s) fe (resumed_at at) in
+        let text = place_text (steps true bs k (resumed_moment s.moment)).state.core in
+        ((f.0.0, f.0.1, prefix_through f.0.0 [] text f.0.2 (text, refl)), f.1);
+  }
 
 pub reads_resumed : (bs : List ℕ) (k : ℕ) {h : Held} {d : DeskValue} {l o e : Option (List ℕ)} → Holds (StepsRead bs k) (scene (record h { core = resumed h.core }) d l o e) → Holds (ReadsIn bs k) (scene h d l o e)
 unfolding StepsRead ReadsIn
@@ -89,14 +95,18 @@ reads_resumed bs k {h} {d} {l} {o} {e} reads = record { so = λ s fe at. reads.s
 -- ---- the two commands that make steps
 
 moves_by : {f f' : Sitting → Sitting} {text text' : Sitting → List ℕ} (went : Bool) (a b : Scene) → ((s : Sitting) (fe : Option (List ℕ)) → IsAt s fe a → (f s ≡ f' s) × (text s ≡ text' s)) → Moves f text went a b → Moves f' text' went a b
-moves_by {f} {f'} {text} {text'} true a b same moves = record { leads = λ s fe at.
-    let w = moves.leads s fe at in
-    let is = same s fe at in
-    (subst (λ (t : Sitting). IsAt t fe b) is.0 w.0, subst (λ (xs : List ℕ). Appends a.out b.out xs) is.1 w.1) }
-moves_by {f} {f'} {text} {text'} false a b same moves = record { leaves = λ s fe at.
-    let w = moves.leaves s fe at in
-    let is = same s fe at in
-    (subst (λ (xs : List ℕ). GainsPrefix a.out b.out xs) is.1 w.0, subst (λ (t : Sitting). GainsPrefix fe b.err t.moment.state.joint) is.0 w.1) }
+moves_by {f} {f'} {text} {text'} true a b same moves = record {
+  leads = λ s fe at.
+      let w = moves.leads s fe at in
+      let is = same s fe at in
+      (subst (λ (t : Sitting). IsAt t fe b) is.0 w.0, subst (λ (xs : List ℕ). Appends a.out b.out xs) is.1 w.1);
+}
+moves_by {f} {f'} {text} {text'} false a b same moves = record {
+  leaves = λ s fe at.
+      let w = moves.leaves s fe at in
+      let is = same s fe at in
+      (subst (λ (xs : List ℕ). GainsPrefix a.out b.out xs) is.1 w.0, subst (λ (t : Sitting). GainsPrefix fe b.err t.moment.state.joint) is.0 w.1);
+}
 
 pub moves_step : (k : ℕ) (went : Bool) (a b : Scene) → Moves (advanced [] k) (place_after [] k) went a b → Moves (after (Step k)) (says (Step k)) went a b
 unfolding after says
@@ -122,11 +132,16 @@ module _ {K : Type 0} (k : Ghosts K) (c : Command) {h h' : Held} {d d' : DeskVal
       → ((s : Sitting) (fe o : Option (List ℕ)) → IsAt s fe (scene h d l o e) → IsAt (after c s) fe (scene h' d' l o e))
       → ((s : Sitting) (fe o : Option (List ℕ)) → IsAt s fe (scene h d l o e) → says c s ≡ text)
       → Writes k text went old new → Moves (after c) (says c) went (scene h d l (k.held old) e) (scene h' d' l (k.held new) e)
-  moves_answered true {old} {new} leads is writes = record { leads = λ s fe at.
-      (same_at (leads s fe (k.held old) at), rw (is s fe (k.held old) at) writes.gained) }
-  moves_answered false {old} {new} leads is writes = record { leaves = λ s fe at.
-      (rw (is s fe (k.held old) at) (prefix_gained (k.held old) (k.held new) text writes.gained),
-       whole_gained fe e (after c s).moment.state.joint (leads s fe (k.held old) at).gained) }
+  moves_answered true {old} {new} leads is writes = record {
+    leads = λ s fe at.
+        (same_at (leads s fe (k.held old) at), rw (is s fe (k.held old) at) writes.gained);
+  }
+  moves_answered false {old} {new} leads is writes = record {
+    leaves = λ s fe at. (
+      rw (is s fe (k.held old) at) (prefix_gained (k.held old) (k.held new) text writes.gained),
+      whole_gained fe e (after c s).moment.state.joint (leads s fe (k.held old) at).gained,
+    );
+  }
 
 module _ {h : Held} {d : DeskValue} {l e : Option (List ℕ)} where
   pub shown_stays : (x : Shown) (s : Sitting) (fe o : Option (List ℕ)) → IsAt s fe (scene h d l o e) → IsAt (after (Show x) s) fe (scene h d l o e)
@@ -187,8 +202,10 @@ unfolding after map_page
 joint_mapped address s = refl
 
 pub map_fails : (address : ℕ) {a : Scene} → FaultsIn (after (Map address)) (says (Map address)) a a
-map_fails address {a} = record { leaves = λ s fe at.
-    (([], Appends-nil a.out, (says (Map address) s, refl)), rw (joint_mapped address s) (whole_gained fe a.err s.moment.state.joint at.gained)) }
+map_fails address {a} = record {
+  leaves = λ s fe at.
+      (([], Appends-nil a.out, (says (Map address) s, refl)), rw (joint_mapped address s) (whole_gained fe a.err s.moment.state.joint at.gained));
+}
 
 pub goes_quit : {a : Scene} → GoesBy (after Quit) (says Quit) a a
 unfolding after says

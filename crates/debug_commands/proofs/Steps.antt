@@ -122,48 +122,60 @@ steps_first bs n a = record { on = λ s fe at. (s.moment, at_same s fe a at, ref
 module _ {bs : List ℕ} {n : ℕ} {now : Bool} {j : ℕ} {a : Scene} {h : Held} {d : DeskValue} {v : DeviceViews} where
   pub steps_more : {h' : Held} {v' : DeviceViews} → MachineGoesBy moment_after true h h' (record { old = v; new = v' }) → goes_on now bs h.core ≡ true
       → StepsOn bs n now (suc j) a (scene h d v.input.left v.out.held v.err.held) → StepsOn bs n false j a (scene h' d v'.input.left v'.out.held v'.err.held)
-  steps_more {h'} {v'} goes going on = record { on = λ s fe at.
-      let w = on.on s fe at in
-      let shown : Shows true w.0 h (first_views fe v) v = shows_of w.1 in
-      let next : Shows true (moment_after w.0) h' (first_views fe v) v' = goes w.0 (first_views fe v) shown in
-      let runs : goes_on now bs w.0.state.core ≡ true = rw w.1.holds going in
-      (moment_after w.0,
-       at_shown s (moment_after w.0) fe h' d v v' next w.1.breaks w.1.pages,
-       w.2 ∙ steps_on now bs j w.0 runs,
-       Appends-trans a.out v.out.held v'.out.held [] [] w.3 next.gained_out,
-       λ reads. w.4 (reads_later now bs j w.0 runs reads)) }
+  steps_more {h'} {v'} goes going on = record {
+    on = λ s fe at.
+        let w = on.on s fe at in
+        let shown : Shows true w.0 h (first_views fe v) v = shows_of w.1 in
+        let next : Shows true (moment_after w.0) h' (first_views fe v) v' = goes w.0 (first_views fe v) shown in
+        let runs : goes_on now bs w.0.state.core ≡ true = rw w.1.holds going in (
+          moment_after w.0,
+          at_shown s (moment_after w.0) fe h' d v v' next w.1.breaks w.1.pages,
+          w.2 ∙ steps_on now bs j w.0 runs,
+          Appends-trans a.out v.out.held v'.out.held [] [] w.3 next.gained_out,
+          λ reads. w.4 (reads_later now bs j w.0 runs reads),
+        );
+  }
 
   pub steps_fail : {h' : Held} (v' : DeviceViews) → MachineFaultsIn moment_after true h (record { old = v; new = v' }) → goes_on now bs h.core ≡ true
       → StepsOn bs n now (suc j) a (scene h d v.input.left v.out.held v.err.held) → FaultsIn (stepped bs n) silent a (scene h' d v'.input.left v'.out.held v'.err.held)
   unfolding stepped
-  steps_fail {h'} v' faults going on = record { leaves = λ s fe at.
-      let w = on.on s fe at in
-      let shown : Shows true w.0 h (first_views fe v) v = shows_of w.1 in
-      let f = faults w.0 (first_views fe v) shown in
-      let runs : goes_on now bs w.0.state.core ≡ true = rw w.1.holds going in
-      let is : steps true bs n s.moment ≡ steps false bs j (moment_after w.0) = w.2 ∙ steps_on now bs j w.0 runs in
-      ((f.0.0, Appends-trans a.out v.out.held v'.out.held [] f.0.0 w.3 f.0.1, f.0.2),
-       rw is (f.1.0, f.1.1, prefix_through f.1.0 (moment_after w.0).state.joint (steps false bs j (moment_after w.0)).state.joint f.1.2 (grows_steps false bs j (moment_after w.0)))) }
+  steps_fail {h'} v' faults going on = record {
+    leaves = λ s fe at.
+        let w = on.on s fe at in
+        let shown : Shows true w.0 h (first_views fe v) v = shows_of w.1 in
+        let f = faults w.0 (first_views fe v) shown in
+        let runs : goes_on now bs w.0.state.core ≡ true = rw w.1.holds going in
+        let is : steps true bs n s.moment ≡ steps false bs j (moment_after w.0) = w.2 ∙ steps_on now bs j w.0 runs in (
+          (f.0.0, Appends-trans a.out v.out.held v'.out.held [] f.0.0 w.3 f.0.1, f.0.2),
+          rw is (f.1.0, f.1.1, prefix_through f.1.0 (moment_after w.0).state.joint (steps false bs j (moment_after w.0)).state.joint f.1.2 (grows_steps false bs j (moment_after w.0))),
+        );
+  }
 
 pub steps_read : {bs : List ℕ} {n : ℕ} {now : Bool} {j : ℕ} {a b : Scene} → AsksDevice ReadFault b.machine.core → goes_on now bs b.machine.core ≡ true → StepsOn bs n now (suc j) a b → Holds (StepsRead bs n) a
 unfolding StepsRead
-steps_read {bs} {n} {now} {j} {a} {b} asks going on = record { so = λ s fe at.
-    let w = on.on s fe at in
-    w.4 (reads_now now bs j w.0 (rw w.1.holds going) (rw w.1.holds asks)) }
+steps_read {bs} {n} {now} {j} {a} {b} asks going on = record {
+  so = λ s fe at.
+      let w = on.on s fe at in
+      w.4 (reads_now now bs j w.0 (rw w.1.holds going) (rw w.1.holds asks));
+}
 
 pub steps_end : {bs : List ℕ} {n : ℕ} {now : Bool} {j : ℕ} {a b : Scene} → StepsOn bs n now j a b → goes_on now bs b.machine.core ≡ false → GoesBy (stepped bs n) silent a b
 unfolding stepped
-steps_end {bs} {n} {now} {j} {a} {b} on stopped = record { leads = λ s fe at.
-    let w = on.on s fe at in
-    let is : steps true bs n s.moment ≡ w.0 = w.2 ∙ steps_over now bs j w.0 (rw w.1.holds stopped) in
-    (rw is w.1, w.3) }
+steps_end {bs} {n} {now} {j} {a} {b} on stopped = record {
+  leads = λ s fe at.
+      let w = on.on s fe at in
+      let is : steps true bs n s.moment ≡ w.0 = w.2 ∙ steps_over now bs j w.0 (rw w.1.holds stopped) in
+      (rw is w.1, w.3);
+}
 
 pub steps_done : {bs : List ℕ} {n : ℕ} {now : Bool} {a b : Scene} → StepsOn bs n now 0 a b → GoesBy (stepped bs n) silent a b
 unfolding stepped
-steps_done {bs} {n} {now} {a} {b} on = record { leads = λ s fe at.
-    let w = on.on s fe at in
-    let is : steps true bs n s.moment ≡ w.0 = w.2 ∙ steps_none now bs w.0 in
-    (rw is w.1, w.3) }
+steps_done {bs} {n} {now} {a} {b} on = record {
+  leads = λ s fe at.
+      let w = on.on s fe at in
+      let is : steps true bs n s.moment ≡ w.0 = w.2 ∙ steps_none now bs w.0 in
+      (rw is w.1, w.3);
+}
 
 -- ---- counts of faults
 
