@@ -24,6 +24,10 @@ register_line c r = word_line (codes "x" ++ decimal r) (slice_index c.regs r)
 unfoldable pub register_lines : Core → List ℕ
 register_lines c = flat_map (register_line c) (range_with_len 0 register_count)
 
+-- the lines of the place and of the registers
+unfoldable pub scalar_lines : Core → List ℕ
+scalar_lines c = word_line (codes "pc") c.pc ++ register_lines c
+
 -- the lines of the control registers
 abbrev pub flag : Bool → ℕ
 flag true = 1

@@ -9,5 +9,5 @@ mod text;
 pub use layout::write_layout;
 pub use line_text::LineBuf;
 pub use lines::{refused_line, report_line};
-pub use state::write_state;
+pub use state::{control_lines, write_scalars, write_state, write_vector};
 pub use text::write_line;

@@ -5,7 +5,7 @@ ghost use Rattle.arrayvec.specs.ArrayString.{array_string_len};
 ghost use Rattle.cape_io.specs.Views.{Writes};
 ghost use Rattle.bit_laws.specs.Digits.{hex_word};
 ghost use Rattle.rvv_meaning.specs.Texts.{newline};
-ghost use Rattle.report_texts.specs.StateTexts.{word_line, number_line, register_line, register_lines, control_lines, hex_byte, vector_byte, vector_bytes, vector_line, vector_lines, state_text, flag};
+ghost use Rattle.report_texts.specs.StateTexts.{word_line, number_line, register_line, register_lines, scalar_lines, control_lines, hex_byte, vector_byte, vector_bytes, vector_line, vector_lines, state_text, flag};
 
 use crate::text::{push_byte, push_word, write_line};
 use cape_io::{Failed, Sink};
@@ -69,9 +69,9 @@ fn register_line(machine: &Machine, r: u8) -> LineBuf
     line
 }
 
-// The lines of the control registers.
+/// The lines of the control registers of the vector unit.
 #[tactic(auto, unfolding(crate::specs::StateTexts::control_lines))]
-fn control_lines(csrs: &Csrs) -> LineBuf
+pub fn control_lines(csrs: &Csrs) -> LineBuf
     ensures { result.bytes ≡ control_lines csrs.now }
 {
     let mut lines = LineBuf::new();
@@ -139,8 +139,8 @@ fn write_bytes<E: Sink>(machine: &Machine, r: u8, err: &mut E) -> Result<(), Fai
     Ok(())
 }
 
-// Writes the line of a vector register.
-fn write_vector<E: Sink>(machine: &Machine, r: u8, err: &mut E) -> Result<(), Failed>
+/// Writes the line of a vector register, in pieces of at most 240 bytes.
+pub fn write_vector<E: Sink>(machine: &Machine, r: u8, err: &mut E) -> Result<(), Failed>
     requires register { r < 32 }
     ensures { Writes E.Sink (vector_line machine.now.core r) (is_ok result) err.old err.new }
 {
@@ -157,6 +157,14 @@ fn write_registers<E: Sink>(machine: &Machine, err: &mut E) -> Result<(), Failed
         write_line(&register_line(machine, r), err)?;
     }
     Ok(())
+}
+
+/// Writes the lines of the place and of the registers.
+pub fn write_scalars<E: Sink>(machine: &Machine, err: &mut E) -> Result<(), Failed>
+    ensures { Writes E.Sink (scalar_lines machine.now.core) (is_ok result) err.old err.new }
+{
+    write_line(&pc_line(machine.pc()), err)?;
+    write_registers(machine, err)
 }
 
 // Writes the lines of the vector registers.

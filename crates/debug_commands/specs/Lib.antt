@@ -1,0 +1,3 @@
+-- What the commands of a session mean.
+pub mod Sittings
+pub mod Commands

@@ -1,0 +1,3 @@
+-- Lemmas on sessions.
+pub mod Saying
+pub mod Whole

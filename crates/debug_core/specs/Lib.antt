@@ -1,0 +1,2 @@
+-- What a session answers.
+pub mod Sessions
