@@ -3,3 +3,4 @@ pub mod Spans
 pub mod Lists
 pub mod Costs
 pub mod Puts
+pub mod Folds
