@@ -1,5 +1,5 @@
 -- Averages, rounded.
-use Rattle.std.proofs.Common.{◌≡◌, ◌≢◌, ℕ, zero, suc, ◌+◌, ◌-◌, ◌<◌, ◌≤◌, Bool, true, false, cond, not, ltb, eqb, ℤ, pos, ◌+ℤ◌, ◌||◌, ◌&&◌, List, [], ◌∷◌, ◌++◌, map, refl, sym, ◌∙◌, ap, arith, inl, inr, ◌⊎◌, ⊎_elim}
+use Rattle.std.proofs.Common.{◌≡◌, ◌≢◌, ℕ, zero, suc, ◌+◌, ◌-◌, ◌<◌, ◌≤◌, Bool, true, false, cond, not, ltb, ℤ, ◌||◌, ◌&&◌, List, [], ◌∷◌, ◌++◌, map, refl, sym, ◌∙◌, ap, arith, inl, inr, ◌⊎◌, ⊎_elim}
 use Rattle.std.specs.Int.{int_shr, from_bool}
 use Rattle.std.proofs.lemmas.Bool.{cases_lt, cases_eq, lt-ltb, le-ltb, ne_eqb}
 use Rattle.bit_laws.specs.Numbers.{number, low}
@@ -10,7 +10,7 @@ use Rattle.bit_laws.proofs.Rounding.{rounds, plus-zero}
 use Rattle.micro_ir.specs.Steps.{fires, steps_on}
 use Rattle.micro_ir.specs.Increments.{increment as increment_steps, ripple, half_sums}
 use Rattle.micro_ir.specs.WorkRows.{carry_row, result_row, truth_row}
-use Rattle.micro_ir.proofs.Incrementing.{Incremented, incremented}
+use Rattle.micro_ir.proofs.Incrementing.{incremented}
 use Rattle.micro_ir.proofs.OneElement.{hit, fires-hit}
 use Rattle.micro_ir.proofs.Ripples.{Without}
 use Rattle.micro_ir.proofs.StepLists.{steps_on-append}
@@ -18,11 +18,11 @@ use Rattle.gen_shift.specs.Rows.{is_among, moved_row}
 use Rattle.gen_shift.proofs.Stays.{Within, within-append}
 use Rattle.row_sums.specs.Sums.{total_row, halved}
 use Rattle.row_sums.proofs.Kept.{kept}
-use Rattle.row_sums.proofs.Places.{Down, halved-here}
+use Rattle.row_sums.proofs.Places.{halved-here}
 use Rattle.gen_fixed.specs.Lists.{carries_of, beyond_on, beyond, halving, half_rows, half_on, is_down, rounding, averaging, average_row}
 use Rattle.gen_fixed.specs.Kinds.{exact}
 use Rattle.gen_fixed.proofs.Operands.{fewer, total_rows}
-use Rattle.gen_fixed.proofs.Totals.{total_bits, beyond_bit, Beyond, beyond-only, beyond-on, Exact, exact-is}
+use Rattle.gen_fixed.proofs.Totals.{total_bits, beyond_bit, beyond-only, beyond-on, Exact, exact-is}
 
 -- the rows that averages work in
 abbrev pub average_rows : List ℕ

@@ -1,11 +1,11 @@
 -- Numbers that are clipped to the range of an element, by their bits.
-use Rattle.std.proofs.Common.{◌≡◌, ℕ, zero, suc, ◌+◌, ◌-◌, ◌*◌, ◌^◌, ◌<◌, ◌≤◌, Bool, true, false, cond, not, ltb, int_lt, ℤ, pos, ◌+ℤ◌, ◌-ℤ◌, refl, sym, ◌∙◌, ap, arith}
+use Rattle.std.proofs.Common.{◌≡◌, ℕ, zero, suc, ◌+◌, ◌-◌, ◌*◌, ◌^◌, ◌<◌, ◌≤◌, Bool, true, false, cond, not, ltb, int_lt, ℤ, pos, ◌-ℤ◌, refl, sym, ◌∙◌, ap, arith}
 use mathlib.Core.Bool.{beq}
 use Rattle.std.proofs.lemmas.Int.{ints}
 use Rattle.std.proofs.lemmas.Bool.{lt-ltb, le-ltb}
 use Rattle.std.proofs.lemmas.Nat.{pow_pos}
 use Rattle.std.proofs.Math.Nat.{pow-suc}
-use Rattle.bit_laws.specs.Numbers.{number, low}
+use Rattle.bit_laws.specs.Numbers.{number}
 use Rattle.bit_laws.specs.Rounding.{bit_of_int, low_int, clipped, clips, clipped_unsigned, clips_unsigned}
 use Rattle.bit_laws.proofs.Numbers.{number-lt, number-same}
 use Rattle.bit_laws.proofs.Ints.{with_sign, bit-signed, number-int, inverts, low-small}

@@ -1,11 +1,10 @@
 -- What the lists of averages and of sums and differences that are clipped cost, how long they are, and that a chain can run them.
-use Rattle.std.proofs.Common.{◌≡◌, ℕ, zero, suc, ◌+◌, ◌-◌, ◌*◌, ◌<◌, ◌≤◌, Bool, true, false, cond, eqb, List, [], ◌∷◌, ◌++◌, length, refl, sym, ◌∙◌, ap, arith, length-append}
-use Rattle.std.proofs.lemmas.Bool.{cases_eq}
+use Rattle.std.proofs.Common.{◌≡◌, ℕ, zero, suc, ◌+◌, ◌-◌, ◌*◌, ◌<◌, ◌≤◌, Bool, true, false, cond, List, [], ◌∷◌, ◌++◌, length, refl, ◌∙◌, arith, length-append}
 use Rattle.cam_chain.specs.declared.counts.Counts.{Counts}
 use Rattle.micro_ir.specs.Increments.{increment}
 use Rattle.micro_ir.specs.Measures.{counts, Measured}
 use Rattle.micro_ir.specs.Pieces.{everywhere, above, clear, commit, downs, broadcast}
-use Rattle.micro_ir.specs.Replay.{AllInRange, tally, counts_and}
+use Rattle.micro_ir.specs.Replay.{AllInRange, tally}
 use Rattle.micro_ir.specs.Steps.{Step, micros}
 use Rattle.micro_ir.specs.WorkRows.{carry_row, result_row, truth_row}
 use Rattle.micro_ir.specs.declared.op.MicroOp.{MicroOp}
@@ -13,14 +12,14 @@ use Rattle.micro_ir.proofs.Incrementing.{increment-counts, increment-length, inc
 use Rattle.micro_ir.proofs.Lists.{tally-append, AllInRange-append}
 use Rattle.row_views.specs.Clips.{clip_test}
 use Rattle.gen_arith.specs.Recipes.{ripple, odd_on}
-use Rattle.gen_arith.proofs.Costs.{counts-same, counts-add}
+use Rattle.gen_arith.proofs.Costs.{counts-same}
 use Rattle.gen_shift.specs.Rows.{moved_row}
 use Rattle.row_sums.specs.Sums.{total_row, sum_from, halved}
 use Rattle.row_sums.proofs.Costs.{Sized, sized-append, sized-as, measured, none-sized, clear-sized, commit-sized, downs-sized, broadcast-sized, ripple-sized, sum_from-sized, halved-sized}
 use Rattle.gen_fixed.specs.declared.kinds.Saturating.{Saturating}
 use Rattle.gen_fixed.specs.declared.kinds.Saturating.TheVariants.{Saddu, Sadd, Ssubu, Ssub}
-use Rattle.gen_fixed.specs.Lists.{overflow_row, operands, carries_of, beyond_on, beyond, halving, half_rows, half_on, is_down, rounding, averaging, average_row, average_steps, bounded, bound_on, saturating_unsigned, overflow_on, overflowing, saturating_signed}
-use Rattle.gen_fixed.specs.Kinds.{average_counts, average_length, has_sign, is_difference, saturating, flag_row, saturating_list, saturating_counts, saturated_length, saturating_length}
+use Rattle.gen_fixed.specs.Lists.{overflow_row, operands, carries_of, beyond_on, beyond, halving, half_rows, half_on, is_down, averaging, average_steps, bounded, bound_on, saturating_unsigned, overflow_on, overflowing, saturating_signed}
+use Rattle.gen_fixed.specs.Kinds.{average_counts, average_length, has_sign, is_difference, saturating_list, saturating_counts, saturated_length, saturating_length}
 
 -- ---- averages
 

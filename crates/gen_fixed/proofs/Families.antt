@@ -1,6 +1,5 @@
 -- The laws of averages and of sums and differences that are clipped.
-use Rattle.std.proofs.Common.{◌≡◌, ◌≢◌, ℕ, zero, suc, ◌+◌, ◌-◌, ◌*◌, ◌/◌, ◌%◌, ◌<◌, ◌≤◌, Bool, true, false, cond, eqb, ◌&&◌, List, [], ◌∷◌, ◌++◌, refl, sym, ◌∙◌, ap, arith, ⊎_elim}
-use Rattle.std.proofs.lemmas.Bool.{lt-ltb, cases_eq}
+use Rattle.std.proofs.Common.{◌≡◌, ℕ, ◌*◌, ◌/◌, ◌%◌, ◌<◌, Bool, true, false, cond, eqb, ◌&&◌, ◌++◌, refl, sym, ◌∙◌, ap, arith}
 use Rattle.std.proofs.Math.Nat.{mod-add-div'}
 use Rattle.bit_laws.specs.Numbers.{number, low, bit_of}
 use Rattle.bit_laws.proofs.Numbers.{bit-number}
@@ -8,11 +7,11 @@ use Rattle.bit_laws.specs.Rounding.{low_int, rounded, clipped, clips, clipped_un
 use Rattle.bit_laws.proofs.Ints.{int-low}
 use Rattle.bit_rows.specs.Slices.{Slices}
 use Rattle.steer_net.specs.Moves.{per_row}
-use Rattle.micro_ir.specs.Kinds.{Writes, Realises}
+use Rattle.micro_ir.specs.Kinds.{Realises}
 use Rattle.micro_ir.specs.Pieces.{commit}
-use Rattle.micro_ir.specs.Replay.{replay, clips as clips_list}
-use Rattle.micro_ir.specs.Steps.{Step, steps_on, AllFit, micros, element}
-use Rattle.micro_ir.specs.WorkRows.{IsOperandRow, active_row, carry_row, result_row, broadcast_row, truth_row, scalar_row}
+use Rattle.micro_ir.specs.Replay.{replay}
+use Rattle.micro_ir.specs.Steps.{steps_on, micros, element}
+use Rattle.micro_ir.specs.WorkRows.{IsOperandRow, active_row, result_row, scalar_row}
 use Rattle.micro_ir.specs.declared.place.Place.{Place}
 use Rattle.micro_ir.proofs.Committed.{commit-writes}
 use Rattle.micro_ir.proofs.Lift.{micros-element, replay-columns}
@@ -21,21 +20,19 @@ use Rattle.micro_ir.proofs.OneElement.{commit-fits}
 use Rattle.row_views.specs.Clips.{clip_test, ClipsWhere}
 use Rattle.row_views.specs.Views.{view}
 use Rattle.row_views.proofs.Clips.{body-clip, clip_test-clips}
-use Rattle.fold_laws.specs.Folds.{any}
 use Rattle.fold_laws.proofs.Anys.{any-same}
-use Rattle.gen_shift.specs.Rows.{is_among, moved_row}
+use Rattle.gen_shift.specs.Rows.{moved_row}
 use Rattle.gen_shift.proofs.Stays.{Within}
-use Rattle.row_sums.specs.Sums.{total_row}
-use Rattle.row_sums.proofs.Kept.{kept, operand-off, low-off, past_scalar}
+use Rattle.row_sums.proofs.Kept.{kept, operand-off, low-off}
 use Rattle.row_sums.proofs.Fits.{work-realises}
 use Rattle.gen_fixed.specs.declared.kinds.Average.{Average}
 use Rattle.gen_fixed.specs.declared.kinds.Average.TheVariants.{Avgu, Avg}
 use Rattle.gen_fixed.specs.declared.kinds.Saturating.{Saturating}
 use Rattle.gen_fixed.specs.declared.kinds.Saturating.TheVariants.{Saddu, Sadd, Ssubu, Ssub}
-use Rattle.gen_fixed.specs.Lists.{overflow_row, carries_of, beyond_on, averaging, average_row, saturating_unsigned, saturating_signed}
-use Rattle.gen_fixed.specs.Kinds.{exact, average_sign, average_value, has_sign, is_difference, saturating_value, saturating_clips, saturating, flag_row, saturating_list}
+use Rattle.gen_fixed.specs.Lists.{carries_of, beyond_on, averaging, average_row}
+use Rattle.gen_fixed.specs.Kinds.{exact, average_sign, average_value, saturating, flag_row, saturating_list}
 use Rattle.gen_fixed.specs.Laws.{RealisesAverage, RealisesSaturating, ClipsSaturating, LeavesRows}
-use Rattle.gen_fixed.proofs.Operands.{fewer, total_rows}
+use Rattle.gen_fixed.proofs.Operands.{total_rows}
 use Rattle.gen_fixed.proofs.Averages.{average_rows, averaging-only, average-made}
 use Rattle.gen_fixed.proofs.Unsigned.{saturating_rows, Saturated, unsigned-only, unsigned-on}
 use Rattle.gen_fixed.proofs.Signed.{signed_rows, signed-only, signed-on}

@@ -1,8 +1,8 @@
 -- No step of these lists leaves its element.
-use Rattle.std.proofs.Common.{◌≡◌, ◌≢◌, ℕ, suc, ◌+◌, ◌-◌, ◌<◌, ◌≤◌, Bool, true, false, cond, List, [], ◌∷◌, ◌++◌, refl, arith, inl, inr}
+use Rattle.std.proofs.Common.{◌≡◌, ℕ, ◌-◌, ◌<◌, ◌≤◌, Bool, true, false, cond, List, [], ◌∷◌, refl, arith, inr}
 use Rattle.micro_ir.specs.Folding.{has_whole}
 use Rattle.micro_ir.specs.Increments.{increment}
-use Rattle.micro_ir.specs.Pieces.{StaysIn, everywhere, ranged, above, clear, downs, broadcast}
+use Rattle.micro_ir.specs.Pieces.{StaysIn, above, downs, broadcast}
 use Rattle.micro_ir.specs.Steps.{AllFit}
 use Rattle.micro_ir.specs.WorkRows.{carry_row, result_row, broadcast_row, truth_row}
 use Rattle.micro_ir.proofs.Effects.{downs-fit, broadcast-fits}
@@ -15,7 +15,7 @@ use Rattle.gen_arith.proofs.Ripple.{ripple-fits}
 use Rattle.gen_shift.specs.Rows.{moved_row}
 use Rattle.row_sums.specs.Sums.{total_row, sum_from, halved}
 use Rattle.row_sums.proofs.Fits.{sum_from-fits, halved-fits}
-use Rattle.gen_fixed.specs.Lists.{overflow_row, operands, carries_of, beyond_on, beyond, halving, half_rows, half_on, is_down, rounding, averaging, low_range, bounded, bound_on, saturating_unsigned, overflow_on, overflowing, saturating_signed}
+use Rattle.gen_fixed.specs.Lists.{overflow_row, operands, carries_of, beyond, halving, half_rows, half_on, is_down, rounding, averaging, low_range, bounded, bound_on, saturating_unsigned, overflow_on, overflowing, saturating_signed}
 use Rattle.gen_fixed.specs.Kinds.{saturating}
 
 carries-whole : (sub : Bool) (a b : ℕ) → has_whole (operands a b) (carries_of sub) ≡ true

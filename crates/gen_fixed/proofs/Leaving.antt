@@ -1,12 +1,11 @@
 -- The laws of clips of wide numbers.
-use Rattle.std.proofs.Common.{◌≡◌, ◌≢◌, ℕ, zero, suc, ◌+◌, ◌-◌, ◌*◌, ◌/◌, ◌^◌, ◌<◌, ◌≤◌, Bool, true, false, cond, pos, List, [], ◌∷◌, ◌++◌, refl, sym, ◌∙◌, ap, arith, inl}
-use Rattle.std.proofs.lemmas.Bool.{lt-ltb}
-use Rattle.bit_laws.specs.Numbers.{number, low, bit_of}
+use Rattle.std.proofs.Common.{◌≡◌, ◌≢◌, ℕ, zero, suc, ◌+◌, ◌-◌, ◌*◌, ◌/◌, ◌^◌, ◌<◌, ◌≤◌, Bool, true, false, cond, [], ◌∷◌, refl, sym, ◌∙◌, ap, arith, inl}
+use Rattle.bit_laws.specs.Numbers.{number, low}
 use Rattle.bit_laws.specs.Signed.{signed}
 use Rattle.bit_laws.specs.Rounding.{any_below}
 use Rattle.bit_laws.proofs.Numbers.{number-lt, number-same, number-cat}
 use Rattle.bit_laws.proofs.Ints.{low-small}
-use Rattle.micro_ir.specs.Pieces.{everywhere, below, clear, downs, broadcast}
+use Rattle.micro_ir.specs.Pieces.{below, downs, broadcast}
 use Rattle.micro_ir.specs.Steps.{AllFit, steps_on, element}
 use Rattle.micro_ir.specs.WorkRows.{broadcast_row}
 use Rattle.micro_ir.proofs.Effects.{downs-fit, broadcast-fits}
@@ -14,12 +13,12 @@ use Rattle.micro_ir.proofs.Folds.{copy-whole, pair-whole}
 use Rattle.micro_ir.proofs.Lift.{micros-element}
 use Rattle.micro_ir.proofs.OneElement.{everywhere-fits, clear-fits, below-fits}
 use Rattle.micro_ir.proofs.StepLists.{AllFit-append}
-use Rattle.gen_shift.specs.Laws.{Leaves, LeavesValue}
+use Rattle.gen_shift.specs.Laws.{LeavesValue}
 use Rattle.gen_shift.specs.Rows.{is_among}
 use Rattle.row_sums.proofs.Kept.{kept, differ}
 use Rattle.gen_fixed.specs.declared.kinds.Clipping.{Clipping}
 use Rattle.gen_fixed.specs.declared.kinds.Clipping.TheVariants.{Clipu, Clip}
-use Rattle.gen_fixed.specs.Lists.{overflow_row, clipped_row, bounded, high_bits, differing, clipping_unsigned, clipping_signed, clipping}
+use Rattle.gen_fixed.specs.Lists.{overflow_row, clipped_row, high_bits, differing, clipping_unsigned, clipping_signed, clipping}
 use Rattle.gen_fixed.specs.Kinds.{clip_value, clip_tells, clip_left, clip_flag}
 use Rattle.gen_fixed.specs.Laws.{clip_rows, LeavesClipped, LeavesFlag}
 use Rattle.gen_fixed.proofs.Bounds.{none-number, all-number, clip_bits}

@@ -7,7 +7,7 @@ use Rattle.std.proofs.lemmas.Nat.{pow_pos, pow-add, div-mul-add}
 use Rattle.std.proofs.Math.Nat.{pow-suc, mul-le-mul_right}
 use Rattle.bit_laws.specs.Numbers.{number}
 use Rattle.bit_laws.specs.Signed.{signed}
-use Rattle.bit_laws.specs.Rounding.{low_int, any_below, clipped, clips, clipped_unsigned, clips_unsigned}
+use Rattle.bit_laws.specs.Rounding.{low_int, any_below, clipped, clips}
 use Rattle.bit_laws.proofs.Numbers.{number-lt, number-cat}
 use Rattle.bit_laws.proofs.Ints.{with_sign, signed-is}
 use Rattle.gen_fixed.proofs.Bounds.{Bounded, bounded-above, clip_bits, clip_of, clips_of, less, less-pos, low-sign, low-number, top-bit, all-number, none-number, least_sign, most_sign}

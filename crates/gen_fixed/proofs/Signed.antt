@@ -1,13 +1,13 @@
 -- Sums and differences with a sign that are clipped, with the row that tells it.
-use Rattle.std.proofs.Common.{◌≡◌, ◌≢◌, ℕ, zero, suc, ◌+◌, ◌-◌, ◌<◌, ◌≤◌, Bool, true, false, cond, not, ltb, ◌||◌, ◌&&◌, List, [], ◌∷◌, ◌++◌, map, refl, sym, ◌∙◌, ap, arith}
+use Rattle.std.proofs.Common.{◌≡◌, ℕ, zero, suc, ◌+◌, ◌-◌, ◌<◌, ◌≤◌, Bool, true, false, cond, not, ltb, ◌||◌, ◌&&◌, List, [], ◌∷◌, ◌++◌, refl, sym, ◌∙◌, ap, arith}
 use mathlib.Core.Bool.{beq}
 use Rattle.std.proofs.lemmas.Bool.{lt-ltb}
-use Rattle.bit_laws.specs.Numbers.{number, low}
+use Rattle.bit_laws.specs.Numbers.{number}
 use Rattle.bit_laws.specs.Rounding.{low_int, clipped, clips}
 use Rattle.bit_laws.proofs.Numbers.{number-same}
 use Rattle.micro_ir.specs.Steps.{Step, step_on, steps_on}
 use Rattle.micro_ir.specs.WorkRows.{carry_row, result_row, broadcast_row}
-use Rattle.micro_ir.specs.Pieces.{above, clear, downs, broadcast}
+use Rattle.micro_ir.specs.Pieces.{above, clear, broadcast}
 use Rattle.micro_ir.proofs.Effects.{downs-here, broadcast-on}
 use Rattle.micro_ir.proofs.OneElement.{hit, fires-hit, clear-here, above-else, above-here}
 use Rattle.micro_ir.proofs.StepLists.{steps_on-append}

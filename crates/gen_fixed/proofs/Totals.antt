@@ -1,13 +1,12 @@
 -- Sums and differences with the bit beyond the highest one.
-use Rattle.std.proofs.Common.{◌≡◌, ◌≢◌, ℕ, zero, suc, ◌+◌, ◌-◌, ◌*◌, ◌^◌, ◌<◌, ◌≤◌, Bool, true, false, cond, ltb, ◌||◌, ℤ, pos, ◌+ℤ◌, ◌-ℤ◌, List, [], ◌∷◌, refl, sym, ◌∙◌, ap, arith}
+use Rattle.std.proofs.Common.{◌≡◌, ℕ, zero, suc, ◌+◌, ◌-◌, ◌^◌, ◌<◌, ◌≤◌, Bool, true, false, cond, ltb, ◌||◌, ℤ, pos, ◌+ℤ◌, ◌-ℤ◌, List, [], ◌∷◌, refl, sym, ◌∙◌, ap, arith}
 use Rattle.std.proofs.lemmas.Int.{ints}
 use Rattle.std.proofs.lemmas.Bool.{lt-ltb, le-ltb}
 use Rattle.bit_laws.specs.Numbers.{number}
-use Rattle.bit_laws.specs.Signed.{signed}
 use Rattle.bit_laws.specs.Rounding.{bit_of_int}
 use Rattle.bit_laws.proofs.Numbers.{number-same}
 use Rattle.bit_laws.proofs.Ints.{with_sign, bit-signed, signed-is}
-use Rattle.micro_ir.specs.Steps.{fires, step_on, steps_on}
+use Rattle.micro_ir.specs.Steps.{step_on, steps_on}
 use Rattle.micro_ir.specs.WorkRows.{carry_row, truth_row}
 use Rattle.micro_ir.specs.Pieces.{above, clear}
 use Rattle.micro_ir.proofs.OneElement.{step-row, clear-here, above-else, above-here}

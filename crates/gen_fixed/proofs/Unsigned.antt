@@ -1,32 +1,28 @@
 -- Sums and differences without a sign that are clipped, with the row that tells it.
-use Rattle.std.proofs.Common.{◌≡◌, ◌≢◌, ℕ, zero, suc, ◌+◌, ◌-◌, ◌*◌, ◌^◌, ◌<◌, ◌≤◌, Bool, true, false, cond, not, ltb, ℤ, pos, ◌+ℤ◌, ◌-ℤ◌, ◌||◌, ◌&&◌, List, [], ◌∷◌, ◌++◌, map, refl, sym, ◌∙◌, ap, arith, ⊎_elim}
-use mathlib.Core.Bool.{beq}
+use Rattle.std.proofs.Common.{◌≡◌, ℕ, zero, suc, ◌+◌, ◌-◌, ◌^◌, ◌<◌, Bool, true, false, cond, not, pos, ◌+ℤ◌, ◌-ℤ◌, ◌||◌, List, [], ◌∷◌, ◌++◌, refl, sym, ◌∙◌, ap, arith}
 use Rattle.std.proofs.lemmas.Int.{ints}
-use Rattle.std.proofs.lemmas.Bool.{cases_lt, lt-ltb, le-ltb, le-leb}
-use Rattle.bit_laws.specs.Numbers.{number, low}
-use Rattle.bit_laws.specs.Rounding.{low_int, clipped, clips, clipped_unsigned, clips_unsigned}
+use Rattle.bit_laws.specs.Numbers.{number}
+use Rattle.bit_laws.specs.Rounding.{low_int, clipped_unsigned, clips_unsigned}
 use Rattle.bit_laws.proofs.Numbers.{number-lt, number-same}
 use Rattle.bit_laws.proofs.Ints.{with_sign}
-use Rattle.micro_ir.specs.Steps.{fires, moved, step_on, steps_on}
+use Rattle.micro_ir.specs.Steps.{step_on, steps_on}
 use Rattle.micro_ir.specs.WorkRows.{carry_row, result_row, broadcast_row, truth_row}
-use Rattle.micro_ir.specs.Pieces.{everywhere, ranged, above, clear, downs, broadcast}
-use Rattle.micro_ir.proofs.Effects.{downs-here, broadcast-on}
-use Rattle.micro_ir.proofs.OneElement.{hit, fires-hit, step-row, step-here, step-else, clear-here, everywhere-here, above-else, above-here}
+use Rattle.micro_ir.specs.Pieces.{everywhere, clear, downs}
+use Rattle.micro_ir.proofs.Effects.{downs-here}
+use Rattle.micro_ir.proofs.OneElement.{hit, fires-hit, step-row, clear-here, everywhere-here}
 use Rattle.micro_ir.proofs.StepLists.{steps_on-append}
-use Rattle.gen_arith.specs.Recipes.{odd_on, most_on, borrow_on}
+use Rattle.gen_arith.specs.Recipes.{most_on, borrow_on}
 use Rattle.gen_arith.proofs.Rows.{finds, carried}
 use Rattle.gen_arith.proofs.Numbers.{adder}
 use Rattle.gen_shift.specs.Rows.{is_among}
-use Rattle.gen_shift.proofs.Stays.{Within, within-append, within-downs, within-broadcast}
-use Rattle.row_sums.specs.Sums.{total_row, sum_from}
-use Rattle.row_sums.proofs.Kept.{kept, differ}
-use Rattle.row_sums.proofs.Numbers.{borrower}
-use Rattle.row_sums.proofs.Totals.{sum_from-on, sum_from-only}
-use Rattle.gen_fixed.specs.Lists.{overflow_row, operands, carries_of, beyond_on, beyond, low_range, bounded, bound_on, saturating_unsigned, overflow_on, overflowing, saturating_signed}
-use Rattle.gen_fixed.specs.Kinds.{exact, saturating, flag_row}
-use Rattle.gen_fixed.proofs.Operands.{fewer, reads, blind, total_rows}
-use Rattle.gen_fixed.proofs.Totals.{total_bits, beyond_bit, Beyond, beyond-only, beyond-on, difference-is, signed-exact-is}
-use Rattle.gen_fixed.proofs.Bounds.{none-number, all-number, bounded-above, bounded-below, clip_bits, clip-is}
+use Rattle.gen_shift.proofs.Stays.{Within, within-append, within-downs}
+use Rattle.row_sums.specs.Sums.{total_row}
+use Rattle.row_sums.proofs.Kept.{kept}
+use Rattle.gen_fixed.specs.Lists.{overflow_row, carries_of, beyond, bound_on, saturating_unsigned}
+use Rattle.gen_fixed.specs.Kinds.{exact}
+use Rattle.gen_fixed.proofs.Operands.{total_rows}
+use Rattle.gen_fixed.proofs.Totals.{total_bits, beyond_bit, beyond-only, beyond-on, difference-is}
+use Rattle.gen_fixed.proofs.Bounds.{none-number, all-number, bounded-above, bounded-below}
 
 -- the rows that these lists write
 abbrev pub saturating_rows : List ℕ

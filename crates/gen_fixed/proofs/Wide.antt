@@ -1,13 +1,11 @@
 -- The lists of clips of wide numbers, on one element.
-use Rattle.std.proofs.Common.{◌≡◌, ◌≢◌, ℕ, zero, suc, ◌+◌, ◌-◌, ◌*◌, ◌/◌, ◌^◌, ◌<◌, ◌≤◌, Bool, true, false, cond, not, ltb, ◌||◌, ◌&&◌, List, [], ◌∷◌, ◌++◌, refl, sym, ◌∙◌, ap, arith, ⊎_elim}
+use Rattle.std.proofs.Common.{◌≡◌, ◌≢◌, ℕ, zero, suc, ◌+◌, ◌-◌, ◌*◌, ◌<◌, ◌≤◌, Bool, true, false, cond, not, ◌||◌, List, [], ◌∷◌, ◌++◌, refl, sym, ◌∙◌, ap, arith}
 use mathlib.Core.Bool.{beq}
-use Rattle.std.proofs.lemmas.Bool.{cases_lt, lt-ltb, le-ltb}
-use Rattle.bit_laws.specs.Numbers.{number}
+use Rattle.std.proofs.lemmas.Bool.{lt-ltb}
 use Rattle.bit_laws.specs.Rounding.{any_below}
-use Rattle.bit_laws.proofs.Numbers.{number-same, number-cat}
-use Rattle.micro_ir.specs.Steps.{Step, step_on, steps_on}
+use Rattle.micro_ir.specs.Steps.{step_on, steps_on}
 use Rattle.micro_ir.specs.WorkRows.{broadcast_row}
-use Rattle.micro_ir.specs.Pieces.{everywhere, above, below, clear, downs, broadcast}
+use Rattle.micro_ir.specs.Pieces.{everywhere, below, clear, downs, broadcast}
 use Rattle.micro_ir.proofs.Effects.{downs-here, downs-above, broadcast-on}
 use Rattle.micro_ir.proofs.OneElement.{hit, fires-hit, step-row, clear-here, everywhere-here, below-here, below-else}
 use Rattle.micro_ir.proofs.StepLists.{steps_on-append}

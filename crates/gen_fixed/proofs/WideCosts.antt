@@ -1,6 +1,6 @@
 -- What clips of wide numbers cost, how long they are, that a chain can run them, and how they are written.
-use Rattle.std.proofs.Common.{◌≡◌, ℕ, zero, suc, ◌+◌, ◌-◌, ◌*◌, ◌/◌, ◌<◌, ◌≤◌, Bool, true, false, List, [], ◌∷◌, ◌++◌, length, refl, sym, ◌∙◌, ap, arith}
-use Rattle.micro_ir.specs.Measures.{counts, Measured}
+use Rattle.std.proofs.Common.{◌≡◌, ℕ, zero, suc, ◌+◌, ◌-◌, ◌*◌, ◌/◌, ◌<◌, ◌≤◌, true, List, [], ◌∷◌, ◌++◌, length, refl, ◌∙◌, ap, arith}
+use Rattle.micro_ir.specs.Measures.{Measured}
 use Rattle.micro_ir.specs.Pieces.{everywhere, below, clear, downs, broadcast}
 use Rattle.micro_ir.specs.Steps.{Step, micro, micros}
 use Rattle.micro_ir.specs.WorkRows.{broadcast_row}

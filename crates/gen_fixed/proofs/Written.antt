@@ -1,8 +1,8 @@
 -- The lists, as they are written.
-use Rattle.std.proofs.Common.{◌≡◌, ℕ, ◌+◌, ◌-◌, Bool, true, false, cond, List, [], ◌∷◌, ◌++◌, refl, ◌∙◌, ap, append_assoc}
+use Rattle.std.proofs.Common.{◌≡◌, ℕ, ◌-◌, Bool, true, false, List, [], ◌∷◌, ◌++◌, refl, ◌∙◌, ap, append_assoc}
 use Rattle.micro_ir.specs.Increments.{increment}
 use Rattle.micro_ir.specs.Pieces.{everywhere, ranged, above, clear, commit, downs, broadcast}
-use Rattle.micro_ir.specs.Steps.{Step, micro, micros}
+use Rattle.micro_ir.specs.Steps.{micro, micros}
 use Rattle.micro_ir.specs.WorkRows.{carry_row, result_row, broadcast_row, truth_row}
 use Rattle.micro_ir.proofs.StepLists.{micros-append, micros-one}
 use Rattle.gen_arith.specs.Recipes.{ripple, odd_on}

@@ -6,7 +6,7 @@ use Rattle.gen_shift.specs.Rows.{moved_row}
 use Rattle.row_sums.specs.Sums.{total_row, halved}
 use Rattle.gen_fixed.specs.Kinds.{average_sign}
 use Rattle.gen_fixed.specs.Lists.{carries_of, beyond_on, beyond, rounding, average_row}
-use Rattle.gen_fixed.proofs.Costs.{average-size, average-measured}
+use Rattle.gen_fixed.proofs.Costs.{average-measured}
 use Rattle.gen_fixed.proofs.Families.{realises-average}
 use Rattle.gen_fixed.proofs.Written.{halving-list, average-list}
 use Rattle.gen_fixed.proofs.lists.emit_average.Goals as goal

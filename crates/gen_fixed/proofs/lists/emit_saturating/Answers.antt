@@ -4,7 +4,7 @@ use Rattle.micro_ir.specs.Steps.{micros}
 use Rattle.micro_ir.specs.WorkRows.{result_row}
 use Rattle.row_views.specs.Clips.{clip_test}
 use Rattle.gen_fixed.specs.Kinds.{has_sign, is_difference, saturating, flag_row}
-use Rattle.gen_fixed.proofs.Costs.{saturating-size, saturating-measured}
+use Rattle.gen_fixed.proofs.Costs.{saturating-measured}
 use Rattle.gen_fixed.proofs.Families.{realises-saturating, clips-saturating}
 use Rattle.gen_fixed.proofs.lists.emit_saturating.Goals as goal
 

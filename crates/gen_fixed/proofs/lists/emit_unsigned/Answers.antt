@@ -1,10 +1,9 @@
-use Rattle.std.proofs.Common.{◌≡◌, ℕ, false, true, ◌-◌, ◌<◌, [], ◌∷◌, ◌++◌, ◌∙◌, append_assoc, arith}
+use Rattle.std.proofs.Common.{◌≡◌, ℕ, true, ◌-◌, ◌<◌, [], ◌∷◌, ◌++◌, ◌∙◌, append_assoc, arith}
 use Rattle.micro_ir.specs.Pieces.{everywhere, clear, downs}
 use Rattle.micro_ir.specs.Steps.{micro, micros}
 use Rattle.micro_ir.specs.WorkRows.{result_row, truth_row}
 use Rattle.row_sums.specs.Sums.{total_row}
 use Rattle.gen_fixed.specs.Lists.{carries_of, beyond, bound_on}
-use Rattle.gen_fixed.proofs.Costs.{unsigned-size}
 use Rattle.gen_fixed.proofs.Written.{unsigned-list}
 use Rattle.gen_fixed.proofs.lists.emit_unsigned.Goals as goal
 

@@ -1,6 +1,6 @@
 use Rattle.std.proofs.Common.{◌≡◌, ℕ, ◌-◌, ◌<◌, [], ◌∷◌, ◌++◌, ◌∙◌, append_assoc, arith}
 use Rattle.micro_ir.specs.Pieces.{above, clear, ranged}
-use Rattle.micro_ir.specs.Steps.{micro, micros}
+use Rattle.micro_ir.specs.Steps.{micro}
 use Rattle.micro_ir.specs.WorkRows.{broadcast_row}
 use Rattle.gen_fixed.specs.Lists.{overflow_row, low_range}
 use Rattle.gen_fixed.proofs.Written.{bounded-list}

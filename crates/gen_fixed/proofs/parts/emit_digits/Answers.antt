@@ -1,4 +1,4 @@
-use Rattle.std.proofs.Common.{◌≡◌, ℕ, ◌-◌, ◌<◌, ◌++◌, ◌∙◌, append_assoc, arith}
+use Rattle.std.proofs.Common.{◌≡◌, ℕ, ◌<◌, ◌++◌, ◌∙◌, append_assoc, arith}
 use Rattle.micro_ir.specs.Pieces.{clear}
 use Rattle.micro_ir.specs.Steps.{micro, micros}
 use Rattle.micro_ir.specs.WorkRows.{carry_row}
