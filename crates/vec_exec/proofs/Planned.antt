@@ -1,5 +1,5 @@
 -- What legality says of the rows of an instruction; and what its program does and costs.
-use Rattle.std.proofs.Common.{◌≡◌, inl, inr, ℕ, ◌+◌, ◌*◌, ◌/◌, ◌<◌, ◌≤◌, true, false, cond, List, Some, refl, sym, ◌∙◌, subst, arith, ⊎_elim}
+use Rattle.std.proofs.Common.{◌≡◌, inl, inr, ℕ, ◌+◌, ◌*◌, ◌/◌, ◌<◌, ◌≤◌, true, false, cond, List, None, Some, refl, sym, ◌∙◌, subst, arith, ⊎_elim}
 use Rattle.std.specs.Prelude.{IsTrue}
 use Rattle.std.proofs.lemmas.Bool.{cases_Bool}
 use Rattle.bit_rows.specs.Slices.{Slices, blank}
@@ -37,7 +37,7 @@ use Rattle.frame_meaning.proofs.Masks.{compare_meaning_law, compare_cost_law}
 use Rattle.vec_exec.specs.declared.recipes.Listed.{Listed}
 use Rattle.vec_exec.specs.declared.recipes.Recipe.{Recipe}
 use Rattle.vec_exec.specs.Recipes.{recipe_for, makes_bits, makes_halves, takes_laid, uses_wide_rows, truth_of, tells_clips, counts_of, length_of}
-use Rattle.vec_exec.specs.Programs.{list_for, width_of, count_of, kind_list, truth_list, wide_lists, body_counts, body_length, half_counts, half_length, element_program, mask_program, half_program, IsMade, IsMaskMade, IsHalfMade, prog, program_by, cost, cost_by}
+use Rattle.vec_exec.specs.Programs.{list_for, width_of, count_of, kind_list, truth_list, wide_lists, body_counts, body_length, half_counts, half_length, element_program, mask_program, half_program, IsMade, IsMaskMade, IsHalfMade, prog, program_by, whole_program, whole_cost, cost, cost_by}
 use Rattle.vec_exec.proofs.Keeping.{elements-keep, mask-keep, halves-keep-program}
 use Rattle.vec_exec.proofs.Fits.{takes_one_laid, has_wide_rows, Clipping, Fits}
 use Rattle.vec_exec.proofs.Placed.{valid-setting, valid-length, valid-mode, valid-short, second-row, wide-row, compared-row, operand-row, plain-rows, wide-rows, laid-rows, operand-small, fits-small, layable, second-layable, wide-layable, Rows, Plans, MaskPlans, HalfPlans, source-half, source-quarter, half-legal, half-wide, half-planned}
@@ -300,3 +300,12 @@ prog-is r i c x named = rw named refl
 pub cost-is : (r : Recipe) (i : VInstr) (c : Cfg) → recipe_for i.op ≡ Some r → cost i c ≡ cost_by r i c
 unfolding cost
 cost-is r i c named = rw named refl
+
+-- those of one that reads whole groups or masks
+pub whole-prog : (i : VInstr) (c : Cfg) (x : ℕ) → recipe_for i.op ≡ None → prog i c x ≡ whole_program i c
+unfolding prog
+whole-prog i c x none = rw none refl
+
+pub whole-costs : (i : VInstr) (c : Cfg) → recipe_for i.op ≡ None → cost i c ≡ whole_cost i c
+unfolding cost
+whole-costs i c none = rw none refl

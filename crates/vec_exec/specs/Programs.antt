@@ -36,6 +36,8 @@ use Rattle.rvv_meaning.specs.Elementwise.{is_ones}
 use Rattle.rvv_meaning.specs.Operations.{log2}
 use Rattle.vec_exec.specs.declared.recipes.Listed.{Listed}
 use Rattle.vec_exec.specs.declared.recipes.Recipe.{Recipe}
+use Rattle.move_exec.specs.Kinds.{kind_for}
+use Rattle.move_exec.specs.Programs.{move_program, move_cost}
 use Rattle.vec_exec.specs.Recipes.{recipe_for, makes_bits, makes_halves, list_of, value_of, counts_of, length_of, FitsRows, Computes, TellsClips}
 
 -- whether an instruction is carried out by a program: not a gather by a vector of indices, a compression, an iota, a move
@@ -260,14 +262,21 @@ module _ (r : Recipe) (i : VInstr) (c : Cfg) where
       cond (makes_bits r.masked) (compare_cost_of i c (counts_of (list_for r i) c.vtype.sew 0))
       (cond (makes_halves r.masked) (cost_of i c (registers_for c.vtype c.vtype.sew) half_counts) (cost_of i c (count_of r c) body_counts))
 
+-- the program of an instruction that reads whole groups or masks, and what it costs
+abbrev pub whole_program : VInstr → Cfg → List MicroOp
+whole_program i c = option_map_or (λ kind. move_program kind i c) (kind_for i.op) []
+
+abbrev pub whole_cost : VInstr → Cfg → Counts
+whole_cost i c = option_map_or (λ kind. move_cost kind c) (kind_for i.op) no_counts
+
 -- the program of an instruction, of those that are built
 unfoldable pub prog : VInstr → Cfg → (scalar : ℕ) → List MicroOp
-prog i c x = option_map_or (λ r. program_by r i c x) (recipe_for i.op) []
+prog i c x = option_map_or (λ r. program_by r i c x) (recipe_for i.op) (whole_program i c)
 
 -- The searches, updates and passes of the program of an instruction: of its scalar; for each register of the destination of
 -- the kind and, where agnostic elements become ones, of the fill; but one fill where the result is a mask.
 unfoldable pub cost : VInstr → Cfg → Counts
-cost i c = option_map_or (λ r. cost_by r i c) (recipe_for i.op) no_counts
+cost i c = option_map_or (λ r. cost_by r i c) (recipe_for i.op) (whole_cost i c)
 
 -- ---- rows
 
