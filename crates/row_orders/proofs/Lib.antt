@@ -7,3 +7,6 @@ pub mod Flipped
 pub mod Keys
 pub mod Comparing
 pub mod Staying
+pub mod Ordering
+pub mod Beginning
+pub mod Spanned
