@@ -1,7 +1,6 @@
 -- The lists, as they are written, what they cost, and what they compute.
 pub mod Written
 pub mod Costs
-pub mod Greatest
 pub mod Leading
 pub mod Flipped
 pub mod Keys
