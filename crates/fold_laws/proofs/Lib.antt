@@ -1,4 +1,3 @@
 -- Sums and tests of the numbers below another.
 pub mod Totals
-pub mod Greatests
 pub mod Anys

@@ -9,7 +9,7 @@ use Rattle.bit_laws.specs.Signed.{signed}
 use Rattle.bit_laws.proofs.Ints.{inverts, low-small}
 use Rattle.bit_laws.proofs.Numbers.{number-lt, number-same, bit-number, number-bits}
 use Rattle.bit_laws.proofs.Signed.{signed-order}
-use Rattle.fold_laws.proofs.Greatests.{PicksBy}
+use Rattle.row_orders.proofs.Greatests.{PicksBy}
 use Rattle.row_orders.specs.declared.orders.Order.{Order}
 use Rattle.row_orders.specs.declared.orders.Order.TheVariants.{Minu, Min, Maxu, Max}
 use Rattle.row_orders.specs.Kinds.{start_of}

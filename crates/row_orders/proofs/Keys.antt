@@ -6,7 +6,7 @@ use Rattle.bit_laws.specs.Numbers.{number, bit_of}
 use Rattle.bit_laws.proofs.Numbers.{number-lt}
 use Rattle.bit_rows.specs.Slices.{Slices}
 use Rattle.fold_laws.specs.Folds.{greatest}
-use Rattle.fold_laws.proofs.Greatests.{greatest-lt}
+use Rattle.row_orders.proofs.Greatests.{greatest-lt}
 use Rattle.steer_net.specs.Moves.{per_row}
 use Rattle.steer_net.specs.Network.{bit_in, is_within}
 use Rattle.micro_ir.specs.WorkRows.{active_row, free_row, IsOperandRow}

@@ -9,7 +9,7 @@ use Rattle.bit_laws.proofs.Numbers.{number-lt, number-same, bit-number, number-b
 use Rattle.bit_rows.specs.Slices.{Slices}
 use Rattle.element_ops.specs.Elements.{element_in}
 use Rattle.fold_laws.specs.Folds.{greatest}
-use Rattle.fold_laws.proofs.Greatests.{PicksBy, fold-below, fold-greatest, greatest-same, greatest-none, greatest-cat, greatest-first}
+use Rattle.row_orders.proofs.Greatests.{PicksBy, fold-below, fold-greatest, greatest-same, greatest-none, greatest-cat, greatest-first}
 use Rattle.steer_net.specs.Moves.{per_row}
 use Rattle.steer_net.specs.Network.{bit_in, is_within}
 use Rattle.micro_ir.specs.ControlNumbers.{with_num}
