@@ -6,3 +6,4 @@ pub mod Rows
 pub mod Taken
 pub mod Sums
 pub mod Groups
+pub mod Folding
