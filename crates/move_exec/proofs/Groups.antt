@@ -129,7 +129,7 @@ module _ (class : Class) (i : VInstr) (c : Cfg) (written : GroupWritten class i 
       let to : i.vd + g < 32 = omega arith in
       let op : MicroOp = Index result_row w (g * (c.vlen / w)) in
       let all : MovesAll op w (i.vd + g) (move_ops w op (i.vd + g)) = moves-all op w (i.vd + g) (omega (arith, least)) a.lanes to (refl, refl) in
-      realises-move op w (i.vd + g) (move_ops w op (i.vd + g)) all (frame_shape (group_frame i c) c false 8 0 number_result) (frame_bounds (group_frame i c)) g refl refl (λ v p m. refl)
+      realises-move op w (i.vd + g) (move_ops w op (i.vd + g)) (omega (arith, least)) all (frame_shape (group_frame i c) c false 8 0 number_result) (frame_bounds (group_frame i c)) g refl refl (λ v p m active. refl)
 
   pub numbers-sound : Sound (group_frame i c) Numbers c (λ v. group_elements (λ e. e))
   numbers-sound =
