@@ -5,3 +5,4 @@ pub mod Instructions
 pub mod Masks
 pub mod Halves
 pub mod Clips
+pub mod Wholes

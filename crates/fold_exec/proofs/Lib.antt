@@ -1,0 +1,4 @@
+-- The proofs of the plans.
+pub mod Cuts
+pub mod Quiet
+pub mod Numbers

@@ -1,0 +1,16 @@
+-- Lists that set no flag of clipped results.
+use Rattle.std.proofs.Common.{◌≡◌, Bool, true, false, ◌||◌, List, [], ◌∷◌, ◌++◌, refl, ◌∙◌}
+use Rattle.bit_rows.specs.Slices.{Slices}
+use Rattle.micro_ir.specs.declared.op.MicroOp.{MicroOp}
+use Rattle.micro_ir.specs.Replay.{replay, clips, all_keep_control}
+use Rattle.micro_ir.proofs.Lists.{clips-append, clips-none}
+
+abbrev pub IsQuiet : List MicroOp → Type 0
+IsQuiet ops = (s : Slices) → clips ops s ≡ false
+
+-- one that leaves the control numbers
+pub quiet-keep : (ops : List MicroOp) → all_keep_control ops ≡ true → IsQuiet ops
+quiet-keep ops keep s = clips-none ops s keep
+
+pub quiet-append : (xs ys : List MicroOp) → IsQuiet xs → IsQuiet ys → IsQuiet (xs ++ ys)
+quiet-append xs ys first second s = clips-append xs ys s ∙ rw (first s, second (replay xs s)) refl
