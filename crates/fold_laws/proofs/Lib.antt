@@ -1,3 +1,4 @@
--- Sums and tests of the numbers below another.
+-- Sums, tests and folds of the numbers below another.
 pub mod Totals
 pub mod Anys
+pub mod Chosen

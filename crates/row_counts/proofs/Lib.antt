@@ -5,3 +5,5 @@ pub mod Widths
 pub mod Rows
 pub mod Taken
 pub mod Sums
+pub mod Groups
+pub mod Folding
