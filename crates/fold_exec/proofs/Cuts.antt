@@ -53,7 +53,7 @@ least-past x to (suc d) t none =
 pub least-cut : (x n to : ℕ) (t u : ℕ → Bool) → to ≤ n → ((k : ℕ) → k < to → t k ≡ u k) → ((k : ℕ) → k < n → to ≤ k → t k ≡ false) → least x n t ≡ least x to u
 least-cut x n to t u le same none =
     let e : n ≡ to + (n - to) = omega arith in
-    ap (λ (m : ℕ). least x m t) e ∙ least-past x to (n - to) t (λ k a b. none k a (omega arith)) ∙ least-same x to t u same
+    ap (λ (m : ℕ). least x m t) e ∙ least-past x to (n - to) t (λ k a b. none k (omega arith) a) ∙ least-same x to t u same
 
 pub least-few : (x n : ℕ) (t : ℕ → Bool) → n ≤ x → least x n t ≤ x
 unfolding least

@@ -1,12 +1,12 @@
 -- The programs of numbers of masks realise their instructions.
-use Rattle.std.proofs.Common.{◌≡◌, ◌≢◌, ℕ, ◌+◌, ◌*◌, ◌/◌, ◌%◌, ◌^◌, ◌<◌, ◌≤◌, Bool, true, false, cond, not, ◌&&◌, ◌||◌, leb, eqb, List, ◌∷◌, Option, Some, None, length, refl, sym, ◌∙◌, ap, subst, arith}
+use Rattle.std.proofs.Common.{◌≡◌, ◌≢◌, ℕ, ◌+◌, ◌*◌, ◌/◌, ◌%◌, ◌^◌, ◌<◌, ◌≤◌, Bool, true, false, cond, not, ◌&&◌, ◌||◌, leb, eqb, List, ◌∷◌, Option, Some, length, refl, sym, ◌∙◌, ap, subst, arith}
 use Rattle.std.specs.Prelude.{IsTrue}
 use Rattle.std.proofs.lemmas.Bool.{lt-ltb, le-ltb, le-leb, ne_eqb}
 use Rattle.std.proofs.Math.Nat.{mod-eq_of_lt}
 use Rattle.bit_laws.specs.Numbers.{low}
 use Rattle.bit_rows.specs.Slices.{Slices}
 use Rattle.cam_chain.specs.Views.{registers_of}
-use Rattle.element_ops.specs.Elements.{mask_bit_of, bits_of}
+use Rattle.element_ops.specs.Elements.{AreRegisters, mask_bit_of, bits_of}
 use Rattle.fold_laws.specs.Folds.{count, least}
 use Rattle.frame_laws.proofs.Bytes.{same_registers, are-registers_of, bits-registers_of}
 use Rattle.frame_meaning.specs.Realising.{LeavesMeaning, RealisesInstruction}
@@ -26,43 +26,25 @@ use Rattle.row_views.specs.Views.{view}
 use Rattle.row_views.proofs.Views.{view-in, view-numbered}
 use Rattle.rvv_decode.specs.Ranges.{IsInRange}
 use Rattle.rvv_decode.specs.declared.instruction.VInstr.{VInstr}
-use Rattle.rvv_decode.specs.declared.instruction.VOp.{VOp}
-use Rattle.rvv_decode.specs.declared.instruction.VOp.TheVariants.{Opi, Opm}
-use Rattle.rvv_decode.specs.declared.instruction.OpmOp.TheVariants.{Vcpop, Vfirst}
-use Rattle.rvv_meaning.specs.Operations.{operation_for}
 use Rattle.rvv_meaning.specs.Vectors.{left_of}
-use Rattle.rvv_meaning.specs.Whole.{Left, number, whole_for}
+use Rattle.rvv_meaning.specs.Whole.{Left, number}
 use Rattle.steer_net.specs.Network.{bit_in, is_within, windowed}
 use Rattle.vtype_cfg.specs.declared.configuration.Cfg.{Cfg}
-use Rattle.vtype_cfg.specs.Classes.{opm_class, opi_class, class_of, mask_count, starts_at_zero, needs_no_setting}
+use Rattle.vtype_cfg.specs.declared.configuration.Policy.TheVariants.{Keep}
+use Rattle.vtype_cfg.specs.Classes.{mask_count, starts_at_zero, needs_no_setting}
 use Rattle.vtype_cfg.specs.Legality.{is_legal}
-use Rattle.vtype_cfg.specs.Settings.{is_valid, is_legal_vlen}
+use Rattle.vtype_cfg.specs.Settings.{is_valid}
 use Rattle.vtype_cfg.proofs.Lengths.{vlen_words}
 use Rattle.vtype_cfg.proofs.Supported.{vlen_bounded}
-use Rattle.fold_exec.specs.declared.kinds.Kind.{Kind}
 use Rattle.fold_exec.specs.declared.kinds.Kind.TheVariants.{Number}
 use Rattle.fold_exec.specs.declared.kinds.MaskNumber.{MaskNumber}
 use Rattle.fold_exec.specs.declared.kinds.MaskNumber.TheVariants.{Count, First}
-use Rattle.fold_exec.specs.Kinds.{kind_for, leaving_of, class_for}
+use Rattle.fold_exec.specs.Kinds.{kind_for, leaving_of}
 use Rattle.fold_exec.specs.Laws.{Fine}
 use Rattle.fold_exec.specs.Programs.{number_of, number_list, fold_program, fold_cost, fold_length}
 use Rattle.fold_exec.proofs.Cuts.{count-cut, count-few, least-cut, least-few}
-use Rattle.fold_exec.proofs.Quiet.{IsQuiet, quiet-append}
-
--- ---- the table of kinds
-
-abbrev Fits : VOp → Option Kind → Type 0
-Fits op None = Unit {0}
-Fits op (Some kind) = class_of op ≡ class_for kind
-
-fits : (op : VOp) → Fits op (kind_for op)
-unfolding kind_for opm_class opi_class
-fits (Opm Vcpop) = refl
-fits (Opm Vfirst) = refl
-fits _ = tt
-
-pub of-kind : (op : VOp) (kind : Kind) → kind_for op ≡ Some kind → class_of op ≡ class_for kind
-of-kind op kind is = subst (Fits op) is (fits op)
+use Rattle.frame_meaning.proofs.Quiet.{IsQuiet}
+use Rattle.fold_exec.proofs.Table.{of-kind}
 
 -- ---- the window
 
@@ -102,7 +84,7 @@ set-past vm row to s e register inside past =
 -- the registers stay
 registers-stay : (s t : Slices) → t.columns ≡ s.columns → ((r at : ℕ) → r < 32 → at < 32 * s.columns → bit_in t r at ≡ bit_in s r at) → registers_of t ≡ registers_of s
 registers-stay s t columns same =
-    same_registers (4 * s.columns) (registers_of t) (registers_of s) (subst (λ n. _) columns (are-registers_of t)) (are-registers_of s) (λ r k register inside.
+    same_registers (4 * s.columns) (registers_of t) (registers_of s) (subst (λ (n : ℕ). AreRegisters (4 * n) (registers_of t)) columns (are-registers_of t)) (are-registers_of s) (λ r k register inside.
     let a : k < 32 * s.columns = omega arith in
     let b : k < 32 * t.columns = rw columns a in
     bits-registers_of t r k register b ∙ same r k register a ∙ sym (bits-registers_of s r k register a))
@@ -113,6 +95,10 @@ registers-stay s t columns same =
 abbrev meant : MaskNumber → (vm : Bool) (row to : ℕ) → List (List ℕ) → ℕ
 meant Count vm row to v = count to (λ e. (vm || mask_bit_of v 0 e) && mask_bit_of v row e)
 meant First vm row to v = least no_place to (λ e. (vm || mask_bit_of v 0 e) && mask_bit_of v row e)
+
+number-left : (kind : MaskNumber) (i : VInstr) (c : Cfg) (x : ℕ) (v : List (List ℕ)) → leaving_of (Number kind) i c x v ≡ number (meant kind i.vm i.vs2 c.vl v)
+number-left Count i c x v = refl
+number-left First i c x v = refl
 
 number-meant : (kind : MaskNumber) (vm : Bool) (row to : ℕ) (s : Slices) → row < 32 → to ≤ 32 * s.columns
     → number_of kind row (windowed active_row 1 0 0 to (not vm) s) ≡ meant kind vm row to (registers_of s)
@@ -139,17 +125,20 @@ number-quiet First row s = refl
 
 -- ---- the program
 
-module _ (kind : MaskNumber) (i : VInstr) (c : Cfg) (x : ℕ) (class : class_of i.op ≡ mask_count) (none : operation_for i.op ≡ None) (whole : whole_for i.op ≡ Some (leaving_of (Number kind))) (fields : IsInRange i)
+module _ (kind : MaskNumber) (i : VInstr) (c : Cfg) (x : ℕ) (is : kind_for i.op ≡ Some (Number kind)) (fields : IsInRange i)
   (valid : IsTrue (is_valid c)) (legal : is_legal i c.vtype c.vstart ≡ true) where
+  obeys : Obeys mask_count i c.vtype c.vstart
+  obeys = legal_law mask_count i c.vtype c.vstart (valid-parts c valid).setting legal (of-kind i.op (Number kind) is).class
+
   from-zero : c.vstart ≡ 0
   unfolding starts_at_zero
-  from-zero = (legal_law mask_count i c.vtype c.vstart (valid-parts c valid).setting legal class).start refl
+  from-zero = obeys.start refl
 
   length-short : c.vl ≤ c.vlen
   unfolding needs_no_setting
   length-short =
       let v = valid-parts c valid in
-      let there = ((legal_law mask_count i c.vtype c.vstart v.setting legal class).setting refl).0 in
+      let there = (obeys.setting refl).0 in
       let short = v.short in
       omega (arith, short, vlmax-short c.vtype c.vlen v.setting there)
 
@@ -157,11 +146,9 @@ module _ (kind : MaskNumber) (i : VInstr) (c : Cfg) (x : ℕ) (class : class_of 
   vlen-few = vlen_bounded c.vlen (valid-parts c valid).length
 
   left : (v : List (List ℕ)) → left_of i c x v ≡ Some (number (meant kind i.vm i.vs2 c.vl v))
-  left v = left-is i c x (leaving_of (Number kind)) none whole v ∙ same kind
-    where
-      same : (k : MaskNumber) → Some (leaving_of (Number k) i (record c { policy = _ }) x v) ≡ Some (number (meant k i.vm i.vs2 c.vl v))
-      same Count = refl
-      same First = refl
+  left v =
+      let f = of-kind i.op (Number kind) is in
+      left-is i c x (leaving_of (Number kind)) f.none f.whole v ∙ ap Some (number-left kind i (record c { policy = Keep }) x v)
 
   number-realises : MakesNumber (number_of kind i.vs2) (number_list kind i.vs2) → RealisesInstruction i c x (fold_program (Number kind) i c)
   unfolding MakesNumber RealisesInstruction fold_program replay clips

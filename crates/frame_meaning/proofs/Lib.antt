@@ -6,3 +6,4 @@ pub mod Masks
 pub mod Halves
 pub mod Clips
 pub mod Wholes
+pub mod Quiet
