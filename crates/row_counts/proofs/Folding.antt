@@ -1,8 +1,9 @@
 -- The counts of a group and of element 0 of a row make the fold that they follow, and spreading brings it into the scalar row.
-use Rattle.std.proofs.Common.{◌≡◌, ◌≢◌, ℕ, zero, suc, ◌+◌, ◌*◌, ◌/◌, ◌<◌, ◌≤◌, Bool, List, ◌∷◌, ◌++◌, refl, sym, ◌∙◌, ap, arith}
+use Rattle.std.proofs.Common.{◌≡◌, ◌≢◌, ℕ, zero, suc, ◌+◌, ◌*◌, ◌/◌, ◌<◌, ◌≤◌, Bool, eqb, List, ◌∷◌, ◌++◌, refl, sym, ◌∙◌, ap, arith}
 use Rattle.std.proofs.Math.Nat.{mul-pos, le-mul_of_pos_right}
-use Rattle.bit_laws.specs.Numbers.{number, low}
-use Rattle.bit_laws.proofs.Numbers.{number-same}
+use Rattle.std.specs.Int.{bit_at}
+use Rattle.bit_laws.specs.Numbers.{number, low, bit_of}
+use Rattle.bit_laws.proofs.Numbers.{number-same, number-bits}
 use Rattle.bit_rows.specs.Slices.{Slices}
 use Rattle.fold_laws.specs.Folds.{fold_chosen}
 use Rattle.fold_laws.proofs.Chosen.{fold-map}
@@ -21,7 +22,7 @@ use Rattle.row_views.proofs.Spread.{spread-num}
 use Rattle.row_views.proofs.Views.{view-in}
 use Rattle.row_counts.specs.declared.counts.Counting.{Counting}
 use Rattle.row_counts.specs.declared.span.Span.{Span}
-use Rattle.row_counts.specs.Folds.{group_element, is_left_in, fold_of, Folded, Folds}
+use Rattle.row_counts.specs.Folds.{group_element, is_left_in, fold_of, Folds}
 use Rattle.row_counts.specs.Lists.{count_rows, count_first}
 use Rattle.row_counts.specs.Puts.{Puts}
 use Rattle.row_counts.specs.Spans.{SpanFits}
@@ -86,7 +87,7 @@ same-first w b s t pos lanes some columns same =
     first w b s pos lanes some = let y : 0 * per_row w s + 0 ≡ 0 = omega arith in rw y at (row-element w b 0 0 s pos lanes some)
 
 -- what the counts make of the control number
-pub follows-fold : (step : (a e : ℕ) → ℕ) (extend : ℕ → ℕ) (w wide b start : ℕ) (span : Span) (group first : Counting) (measure : ℕ → ℕ) (s : Slices)
+follows-fold : (step : (a e : ℕ) → ℕ) (extend : ℕ → ℕ) (w wide b start : ℕ) (span : Span) (group first : Counting) (measure : ℕ → ℕ) (s : Slices)
     → Follows step extend w wide start group first measure → Widths w wide b → SpanFits w s.columns span → span.from ≡ 0 → 0 < span.to
     → measure (replay (counts_from w wide b start span group first) s).num ≡ measure (fold_of step extend w wide b span s)
 unfolding replay
@@ -122,8 +123,8 @@ follows-fold step extend w wide b start span group first measure s follows width
     ∙ ap (λ (a : ℕ). fold_chosen take a left f span.to) (follows.begins x)
     ∙ sym (fold-map measure step take x left (λ e. extend (el e)) f span.to (λ a k l. follows.steps a (el k)))
 
--- Counts whose number at `wide` bits is the fold bring it into the scalar row.
-pub folds-by : (step : (a e : ℕ) → ℕ) (extend : ℕ → ℕ) (w wide b start : ℕ) (span : Span) (group first : Counting) → Widths w wide b
+-- counts whose number at `wide` bits is the fold bring it into the scalar row.
+folds-by : (step : (a e : ℕ) → ℕ) (extend : ℕ → ℕ) (w wide b start : ℕ) (span : Span) (group first : Counting) → Widths w wide b
     → ((s : Slices) → SpanFits w s.columns span → span.from ≡ 0 → 0 < span.to
     → low wide (replay (counts_from w wide b start span group first) s).num ≡ low wide (fold_of step extend w wide b span s))
     → Folds step extend w wide b span (counts_from w wide b start span group first ++ spread_num wide scalar_row)
@@ -147,3 +148,21 @@ folds-by step extend w wide b start span group first widths number s fits from =
       puts = rw (num, split) puts;
       number = λ any. ap (low wide) num ∙ number s fits from any;
     }
+
+-- Counts whose low bits follow the fold bring it into the scalar row.
+pub folds-low : (step : (a e : ℕ) → ℕ) (extend : ℕ → ℕ) (w wide b start : ℕ) (span : Span) (group first : Counting) → Widths w wide b
+    → Follows step extend w wide start group first (low wide) → Folds step extend w wide b span (counts_from w wide b start span group first ++ spread_num wide scalar_row)
+folds-low step extend w wide b start span group first widths follows =
+    folds-by step extend w wide b start span group first widths (λ s fits from any. follows-fold step extend w wide b start span group first (low wide) s follows widths fits from any)
+
+-- And so do those of which each low bit follows it.
+pub folds-bits : (step : (a e : ℕ) → ℕ) (extend : ℕ → ℕ) (w wide b start : ℕ) (span : Span) (group first : Counting) → Widths w wide b
+    → ((j : ℕ) → j < wide → Follows step extend w wide start group first (λ n. bit_at n j))
+    → Folds step extend w wide b span (counts_from w wide b start span group first ++ spread_num wide scalar_row)
+folds-bits step extend w wide b start span group first widths follows =
+    folds-by step extend w wide b start span group first widths (λ s fits from any.
+    let x : ℕ = (replay (counts_from w wide b start span group first) s).num in
+    let y : ℕ = fold_of step extend w wide b span s in
+    sym (number-bits wide x)
+    ∙ number-same wide (bit_of x) (bit_of y) (λ j l. ap (λ (z : ℕ). eqb z 1) (follows-fold step extend w wide b start span group first (λ n. bit_at n j) s (follows j l) widths fits from any))
+    ∙ number-bits wide y)

@@ -1,5 +1,5 @@
 -- What counts make of the control number as a fold: of the active elements of a row, of a group, and of element 0 of a row.
-use Rattle.std.proofs.Common.{◌≡◌, ◌≢◌, ℕ, zero, suc, ◌+◌, ◌-◌, ◌*◌, ◌/◌, ◌<◌, ◌≤◌, Bool, true, false, cond, ◌&&◌, ◌||◌, not, min, leb, List, [], ◌∷◌, refl, sym, ◌∙◌, ap, arith}
+use Rattle.std.proofs.Common.{◌≡◌, ◌≢◌, ℕ, zero, suc, ◌+◌, ◌-◌, ◌*◌, ◌/◌, ◌<◌, ◌≤◌, Bool, true, false, ◌&&◌, ◌||◌, not, min, leb, List, ◌∷◌, refl, sym, ◌∙◌, ap, arith}
 use Rattle.std.proofs.lemmas.Bool.{lt-ltb, le-ltb, le-leb, ne_eqb}
 use Rattle.bit_laws.specs.Numbers.{number}
 use Rattle.bit_laws.proofs.Numbers.{number-same}
@@ -17,7 +17,7 @@ use Rattle.row_views.specs.Views.{view}
 use Rattle.row_views.proofs.Views.{view-in, view-numbered}
 use Rattle.row_counts.specs.declared.counts.Counting.{Counting}
 use Rattle.row_counts.specs.declared.span.Span.{Span}
-use Rattle.row_counts.specs.Folds.{group_element, is_left_in}
+use Rattle.row_counts.specs.Folds.{group_element}
 use Rattle.row_counts.specs.Lists.{count_bits, span_window, count_rows, count_first}
 use Rattle.row_counts.proofs.Rows.{group-bits, row-element}
 
@@ -66,10 +66,11 @@ group-takes w span counting measure take value s takes pos lanes few fits (suc g
     ap (λ (z : Slices). measure z.num) (replay-append before more s)
     ∙ row-takes w row counting measure take value (g * span.per) span.from span.to span.masked t takes pos lanes n few_t
     ∙ ap (λ (c : ℕ). fold_chosen take (measure t.num) (λ p. within (bit_in t 0) (g * span.per + p)) (λ p. value (number w (view w t p row))) (c * (32 / w))) cols
-    ∙ fold-same take (measure t.num) (λ p. within (bit_in t 0) (g * span.per + p)) (λ p. within (bit_in s 0) (g * per + p)) (λ p. value (number w (view w t p row))) (λ p. f (g * per + p)) per (λ p a.
-    (ap (λ (x : ℕ). within (bit_in t 0) (x + p)) first ∙ ap (λ (m : ℕ → Bool). within m (g * per + p)) mask,
-    ap value (number-same w (view w t p row) (view w s p row) (λ j l. view-in w t p row j l ∙ same row (omega arith) (p * w + j) ∙ sym (view-in w s p row j l))
-    ∙ row-element w span.base g p s pos lanes a)))
+    ∙ fold-same take (measure t.num) (λ p. within (bit_in t 0) (g * span.per + p)) (λ p. within (bit_in s 0) (g * per + p)) (λ p. value (number w (view w t p row))) (λ p. f (g * per + p)) per (λ p a. (
+      ap (λ (x : ℕ). within (bit_in t 0) (x + p)) first ∙ ap (λ (m : ℕ → Bool). within m (g * per + p)) mask,
+      ap value (number-same w (view w t p row) (view w s p row) (λ j l. view-in w t p row j l ∙ same row (omega arith) (p * w + j) ∙ sym (view-in w s p row j l))
+          ∙ row-element w span.base g p s pos lanes a),
+    ))
     ∙ ap (λ (a : ℕ). fold_chosen take a (λ p. within (bit_in s 0) (g * per + p)) (λ p. f (g * per + p)) per) (group-takes w span counting measure take value s takes pos lanes few fits g (omega arith))
     ∙ sym (ap (λ (n : ℕ). fold_chosen take (measure s.num) (within (bit_in s 0)) f n) e ∙ fold-cat take (measure s.num) (within (bit_in s 0)) f (g * per) per)
 
