@@ -1,4 +1,3 @@
--- Sums, tests and folds of the numbers below another.
+-- Sums and tests of the numbers below another.
 pub mod Totals
 pub mod Anys
-pub mod Chosen

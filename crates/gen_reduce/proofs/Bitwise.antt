@@ -11,7 +11,7 @@ use Rattle.bit_rows.specs.Slices.{Slices}
 use Rattle.cam_chain.specs.Slices.{searched}
 use Rattle.fold_laws.specs.Folds.{any, total, fold_chosen}
 use Rattle.fold_laws.proofs.Anys.{any-total}
-use Rattle.fold_laws.proofs.Chosen.{fold-same}
+use Rattle.row_counts.proofs.Chosen.{fold-same}
 use Rattle.fold_laws.proofs.Totals.{total-same}
 use Rattle.reduce_tree.specs.Tags.{tags_in}
 use Rattle.reduce_tree.specs.Weights.{bit_put, num_after}

@@ -11,7 +11,7 @@ use Rattle.bit_laws.proofs.Numbers.{number-lt}
 use Rattle.bit_rows.specs.Slices.{Slices}
 use Rattle.cam_chain.specs.Slices.{searched}
 use Rattle.fold_laws.specs.Folds.{total}
-use Rattle.fold_laws.proofs.Chosen.{fold-map}
+use Rattle.row_counts.proofs.Chosen.{fold-map}
 use Rattle.fold_laws.proofs.Totals.{total-same}
 use Rattle.reduce_tree.specs.Tags.{tags_in}
 use Rattle.reduce_tree.specs.Weights.{num_after}

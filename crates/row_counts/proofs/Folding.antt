@@ -6,7 +6,7 @@ use Rattle.bit_laws.specs.Numbers.{number, low, bit_of}
 use Rattle.bit_laws.proofs.Numbers.{number-same, number-bits}
 use Rattle.bit_rows.specs.Slices.{Slices}
 use Rattle.fold_laws.specs.Folds.{fold_chosen}
-use Rattle.fold_laws.proofs.Chosen.{fold-map}
+use Rattle.row_counts.proofs.Chosen.{fold-map}
 use Rattle.steer_net.specs.Moves.{per_row}
 use Rattle.steer_net.specs.Network.{bit_in}
 use Rattle.micro_ir.specs.declared.op.MicroOp.{MicroOp}

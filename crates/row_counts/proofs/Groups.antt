@@ -5,7 +5,7 @@ use Rattle.bit_laws.specs.Numbers.{number}
 use Rattle.bit_laws.proofs.Numbers.{number-same}
 use Rattle.bit_rows.specs.Slices.{Slices}
 use Rattle.fold_laws.specs.Folds.{fold_chosen}
-use Rattle.fold_laws.proofs.Chosen.{fold-same, fold-cat, fold-none}
+use Rattle.row_counts.proofs.Chosen.{fold-same, fold-cat, fold-none}
 use Rattle.steer_net.specs.Moves.{per_row}
 use Rattle.steer_net.specs.Network.{bit_in, is_within, windowed}
 use Rattle.micro_ir.specs.declared.op.MicroOp.{MicroOp}
