@@ -5,3 +5,5 @@ pub mod Instructions
 pub mod Masks
 pub mod Halves
 pub mod Clips
+pub mod Wholes
+pub mod Quiet

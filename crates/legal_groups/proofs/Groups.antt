@@ -12,7 +12,7 @@ use Rattle.legal_groups.proofs.Overlaps.{same_or_apart}
 use Rattle.legal_groups.proofs.Laws.{legal_group_law, legal_mask_law}
 
 -- the registers of a group of elements of SEW bits
-count-is : (vt : Vtype) → IsElementWidth vt.sew → registers_for vt vt.sew ≡ group_count vt
+pub count-is : (vt : Vtype) → IsElementWidth vt.sew → registers_for vt vt.sew ≡ group_count vt
 count-is vt width =
     let least : 8 ≤ vt.sew = width-least vt.sew width in
     let whole : vt.lmul8 * vt.sew ≡ vt.lmul8 * vt.sew + 0 = omega arith in

@@ -2,8 +2,10 @@
 use Rattle.std.proofs.Common.{◌≡◌, ℕ, Bool, true, false, ◌||◌, List, Option, Some, None, refl, sym, ◌∙◌, ap, ⊎_elim}
 use Rattle.std.specs.Prelude.{is_some}
 use Rattle.std.proofs.lemmas.Bool.{false≢true}
+use Rattle.rvv_decode.specs.declared.instruction.OpiOp.{OpiOp}
+use Rattle.rvv_decode.specs.declared.instruction.OpiOp.TheVariants.{Vwredsumu, Vwredsum}
 use Rattle.rvv_decode.specs.declared.instruction.OpmOp.{OpmOp}
-use Rattle.rvv_decode.specs.declared.instruction.OpmOp.TheVariants.{VmvXS, Vcpop, Vfirst, Vid, Vmand, Vmnand, Vmandn, Vmor, Vmnor, Vmorn, Vmxor, Vmxnor, Vmsbf, Vmsif, Vmsof}
+use Rattle.rvv_decode.specs.declared.instruction.OpmOp.TheVariants.{VmvXS, Vcpop, Vfirst, Vid, Vmand, Vmnand, Vmandn, Vmor, Vmnor, Vmorn, Vmxor, Vmxnor, Vmsbf, Vmsif, Vmsof, Vredsum, Vredand, Vredor, Vredxor, Vredminu, Vredmin, Vredmaxu, Vredmax}
 use Rattle.rvv_decode.specs.declared.instruction.VInstr.{VInstr}
 use Rattle.rvv_decode.specs.declared.instruction.VOp.{VOp}
 use Rattle.rvv_decode.specs.declared.instruction.VOp.TheVariants.{Opi, Opm, Config, Memory}
@@ -38,11 +40,27 @@ opm-kind Vmxnor = λ i c x v. (_, refl)
 opm-kind Vmsbf = λ i c x v. (_, refl)
 opm-kind Vmsif = λ i c x v. (_, refl)
 opm-kind Vmsof = λ i c x v. (_, refl)
+opm-kind Vcpop = λ i c x v. (_, refl)
+opm-kind Vfirst = λ i c x v. (_, refl)
+opm-kind Vredsum = λ i c x v. (_, refl)
+opm-kind Vredand = λ i c x v. (_, refl)
+opm-kind Vredor = λ i c x v. (_, refl)
+opm-kind Vredxor = λ i c x v. (_, refl)
+opm-kind Vredminu = λ i c x v. (_, refl)
+opm-kind Vredmin = λ i c x v. (_, refl)
+opm-kind Vredmaxu = λ i c x v. (_, refl)
+opm-kind Vredmax = λ i c x v. (_, refl)
 opm-kind _ = tt
+
+opi-kind : (op : OpiOp) → KindOf (Opi op) (whole_for (Opi op))
+unfolding whole_for
+opi-kind Vwredsumu = λ i c x v. (_, refl)
+opi-kind Vwredsum = λ i c x v. (_, refl)
+opi-kind _ = tt
 
 whole-kind : (op : VOp) → KindOf op (whole_for op)
 unfolding whole_for
-whole-kind (Opi op) = tt
+whole-kind (Opi op) = opi-kind op
 whole-kind (Opm op) = opm-kind op
 whole-kind (Config op) = tt
 whole-kind (Memory op) = tt

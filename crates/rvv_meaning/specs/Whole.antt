@@ -12,13 +12,14 @@ use Rattle.rvv_decode.specs.declared.instruction.VOp.TheVariants.{Opi, Opm}
 use Rattle.rvv_decode.specs.declared.instruction.Form.{Form}
 use Rattle.rvv_decode.specs.declared.instruction.Form.TheVariants.{V, X, I}
 use Rattle.rvv_decode.specs.declared.instruction.OpiOp.{OpiOp}
+use Rattle.rvv_decode.specs.declared.instruction.OpiOp.TheVariants.{Vwredsumu, Vwredsum}
 use Rattle.rvv_decode.specs.declared.instruction.OpmOp.{OpmOp}
-use Rattle.rvv_decode.specs.declared.instruction.OpmOp.TheVariants.{VmvXS, Vcpop, Vfirst, Vid, Vmand, Vmnand, Vmandn, Vmor, Vmnor, Vmorn, Vmxor, Vmxnor, Vmsbf, Vmsif, Vmsof}
+use Rattle.rvv_decode.specs.declared.instruction.OpmOp.TheVariants.{Vredsum, Vredand, Vredor, Vredxor, Vredminu, Vredmin, Vredmaxu, Vredmax, VmvXS, Vcpop, Vfirst, Vid, Vmand, Vmnand, Vmandn, Vmor, Vmnor, Vmorn, Vmxor, Vmxnor, Vmsbf, Vmsif, Vmsof}
 use Rattle.vtype_cfg.specs.declared.configuration.Cfg.{Cfg}
 use Rattle.vtype_cfg.specs.Classes.{group as group_place, count_at}
 use Rattle.vtype_cfg.specs.Settings.{vlmax}
 use Rattle.rvv_meaning.specs.Elementwise.{Elementwise, size_of}
-use Rattle.rvv_meaning.specs.Operations.{vadd}
+use Rattle.rvv_meaning.specs.Operations.{vadd, vand, vor, vxor, vminu, vmin, vmaxu, vmax}
 
 -- What an instruction leaves that computes from the vector registers: elements of registers, or the number of a scalar
 -- register.
@@ -250,6 +251,18 @@ makes_number op = false
 -- the instructions of this kind that are built
 unfoldable pub whole_for : VOp → Option Leaving
 whole_for (Opm VmvXS) = Some first_element
+whole_for (Opi Vwredsumu) = Some (λ i c x v. wide_sum i c x v false)
+whole_for (Opi Vwredsum) = Some (λ i c x v. wide_sum i c x v true)
+whole_for (Opm Vredsum) = Some (λ i c x v. reduced i c x v vadd)
+whole_for (Opm Vredand) = Some (λ i c x v. reduced i c x v vand)
+whole_for (Opm Vredor) = Some (λ i c x v. reduced i c x v vor)
+whole_for (Opm Vredxor) = Some (λ i c x v. reduced i c x v vxor)
+whole_for (Opm Vredminu) = Some (λ i c x v. reduced i c x v vminu)
+whole_for (Opm Vredmin) = Some (λ i c x v. reduced i c x v vmin)
+whole_for (Opm Vredmaxu) = Some (λ i c x v. reduced i c x v vmaxu)
+whole_for (Opm Vredmax) = Some (λ i c x v. reduced i c x v vmax)
+whole_for (Opm Vcpop) = Some set_count
+whole_for (Opm Vfirst) = Some first_set
 whole_for (Opm Vid) = Some element_numbers
 whole_for (Opm Vmand) = Some (λ i c x v. mask_logic i c x v (λ a b. a && b))
 whole_for (Opm Vmnand) = Some (λ i c x v. mask_logic i c x v (λ a b. not (a && b)))

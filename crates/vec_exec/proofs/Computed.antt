@@ -4,8 +4,8 @@ use Rattle.std.specs.Prelude.{is_some}
 use Rattle.std.proofs.lemmas.Bool.{cases_Bool, false≢true}
 use Rattle.rvv_decode.specs.declared.instruction.OpmOp.{OpmOp}
 use Rattle.rvv_decode.specs.declared.instruction.OpiOp.{OpiOp}
-use Rattle.rvv_decode.specs.declared.instruction.OpiOp.TheVariants.{Vrgather, Vrgatherei16}
-use Rattle.rvv_decode.specs.declared.instruction.OpmOp.TheVariants.{VmvXS, Vcompress, Viota, Vid, Vmand, Vmnand, Vmandn, Vmor, Vmnor, Vmorn, Vmxor, Vmxnor, Vmsbf, Vmsif, Vmsof}
+use Rattle.rvv_decode.specs.declared.instruction.OpiOp.TheVariants.{Vrgather, Vrgatherei16, Vwredsumu, Vwredsum}
+use Rattle.rvv_decode.specs.declared.instruction.OpmOp.TheVariants.{VmvXS, Vcompress, Viota, Vid, Vmand, Vmnand, Vmandn, Vmor, Vmnor, Vmorn, Vmxor, Vmxnor, Vmsbf, Vmsif, Vmsof, Vcpop, Vfirst, Vredsum, Vredand, Vredor, Vredxor, Vredminu, Vredmin, Vredmaxu, Vredmax}
 use Rattle.rvv_decode.specs.declared.instruction.Form.{Form}
 use Rattle.rvv_decode.specs.declared.instruction.VInstr.{VInstr}
 use Rattle.rvv_decode.specs.declared.instruction.VOp.{VOp}
@@ -14,13 +14,14 @@ use Rattle.rvv_meaning.specs.Operations.{operation_for}
 use Rattle.rvv_meaning.specs.Vectors.{is_built, is_computed}
 use Rattle.rvv_meaning.specs.Whole.{whole_for, makes_number}
 use Rattle.vec_exec.specs.Programs.{is_engine, is_engine_op, is_opi_engine, is_opm_engine}
+use Rattle.fold_exec.specs.Kinds.{kind_for as fold_for, opm_kind}
 use Rattle.move_exec.specs.Kinds.{kind_for}
 use Rattle.vec_exec.specs.Recipes.{recipe_for}
 use Rattle.vec_exec.proofs.Fits.{recipe-when-built}
 
 -- an instruction that reads a whole group or a whole mask, and has a program, is of a kind that is planned as a whole
-whole-opm : (op : OpmOp) → is_some (whole_for (Opm op)) ≡ true → is_opm_engine op ≡ true → is_some (kind_for (Opm op)) ≡ true
-unfolding whole_for kind_for
+whole-opm : (op : OpmOp) → is_some (whole_for (Opm op)) ≡ true → is_opm_engine op ≡ true → (is_some (kind_for (Opm op)) || is_some (fold_for (Opm op))) ≡ true
+unfolding whole_for kind_for fold_for opm_kind
 whole-opm VmvXS whole runs = absurd (false≢true runs)
 whole-opm Vid whole runs = refl
 whole-opm Vmand whole runs = refl
@@ -34,17 +35,33 @@ whole-opm Vmxnor whole runs = refl
 whole-opm Vmsbf whole runs = refl
 whole-opm Vmsif whole runs = refl
 whole-opm Vmsof whole runs = refl
+whole-opm Vcpop whole runs = refl
+whole-opm Vfirst whole runs = refl
+whole-opm Vredsum whole runs = refl
+whole-opm Vredand whole runs = refl
+whole-opm Vredor whole runs = refl
+whole-opm Vredxor whole runs = refl
+whole-opm Vredminu whole runs = refl
+whole-opm Vredmin whole runs = refl
+whole-opm Vredmaxu whole runs = refl
+whole-opm Vredmax whole runs = refl
 whole-opm _ whole runs = absurd (false≢true whole)
 
-whole-kind : (op : VOp) (form : Form) → is_some (whole_for op) ≡ true → is_engine_op op form ≡ true → is_some (kind_for op) ≡ true
+whole-opi : (op : OpiOp) → is_some (whole_for (Opi op)) ≡ true → (is_some (kind_for (Opi op)) || is_some (fold_for (Opi op))) ≡ true
+unfolding whole_for kind_for fold_for
+whole-opi Vwredsumu whole = refl
+whole-opi Vwredsum whole = refl
+whole-opi _ whole = absurd (false≢true whole)
+
+whole-kind : (op : VOp) (form : Form) → is_some (whole_for op) ≡ true → is_engine_op op form ≡ true → (is_some (kind_for op) || is_some (fold_for op)) ≡ true
 unfolding whole_for
-whole-kind (Opi op) form whole runs = absurd (false≢true whole)
+whole-kind (Opi op) form whole runs = whole-opi op whole
 whole-kind (Opm op) form whole runs = whole-opm op whole runs
 whole-kind (Config op) form whole runs = absurd (false≢true runs)
 whole-kind (Memory op) form whole runs = absurd (false≢true runs)
 
 -- what is built and has a program is planned as a whole, where it has no recipe
-pub whole-when-planned : (i : VInstr) → is_computed i.op ≡ true → is_engine i ≡ true → is_some (recipe_for i.op) ≡ false → is_some (kind_for i.op) ≡ true
+pub whole-when-planned : (i : VInstr) → is_computed i.op ≡ true → is_engine i ≡ true → is_some (recipe_for i.op) ≡ false → (is_some (kind_for i.op) || is_some (fold_for i.op)) ≡ true
 unfolding is_engine
 whole-when-planned i computed runs recipe =
     let none : is_some (operation_for i.op) ≡ false = sym (recipe-when-built i.op) ∙ recipe in
@@ -89,11 +106,27 @@ opm-moves Vmxnor whole apart = absurd (false≢true (sym apart))
 opm-moves Vmsbf whole apart = absurd (false≢true (sym apart))
 opm-moves Vmsif whole apart = absurd (false≢true (sym apart))
 opm-moves Vmsof whole apart = absurd (false≢true (sym apart))
+opm-moves Vcpop whole apart = absurd (false≢true (sym apart))
+opm-moves Vfirst whole apart = absurd (false≢true (sym apart))
+opm-moves Vredsum whole apart = absurd (false≢true (sym apart))
+opm-moves Vredand whole apart = absurd (false≢true (sym apart))
+opm-moves Vredor whole apart = absurd (false≢true (sym apart))
+opm-moves Vredxor whole apart = absurd (false≢true (sym apart))
+opm-moves Vredminu whole apart = absurd (false≢true (sym apart))
+opm-moves Vredmin whole apart = absurd (false≢true (sym apart))
+opm-moves Vredmaxu whole apart = absurd (false≢true (sym apart))
+opm-moves Vredmax whole apart = absurd (false≢true (sym apart))
 opm-moves _ whole apart = absurd (false≢true whole)
+
+opi-moves : (op : OpiOp) (form : Form) → is_some (whole_for (Opi op)) ≡ true → is_opi_engine op form ≡ false → ⊥
+unfolding whole_for
+opi-moves Vwredsumu form whole apart = false≢true (sym apart)
+opi-moves Vwredsum form whole apart = false≢true (sym apart)
+opi-moves _ form whole apart = false≢true whole
 
 none-moves : (op : VOp) (form : Form) → is_some (whole_for op) ≡ true → is_engine_op op form ≡ false → makes_number op ≡ false → ⊥
 unfolding whole_for
-none-moves (Opi op) form whole apart registers = false≢true whole
+none-moves (Opi op) form whole apart registers = opi-moves op form whole apart
 none-moves (Opm op) form whole apart registers = false≢true (sym registers ∙ opm-moves op whole apart)
 none-moves (Config op) form whole apart registers = false≢true whole
 none-moves (Memory op) form whole apart registers = false≢true whole

@@ -37,6 +37,8 @@ use Rattle.rvv_meaning.specs.Elementwise.{is_ones}
 use Rattle.rvv_meaning.specs.Operations.{log2}
 use Rattle.vec_exec.specs.declared.recipes.Listed.{Listed}
 use Rattle.vec_exec.specs.declared.recipes.Recipe.{Recipe}
+use Rattle.fold_exec.specs.Kinds.{kind_for as fold_for}
+use Rattle.fold_exec.specs.Programs.{fold_program, fold_cost}
 use Rattle.move_exec.specs.Kinds.{kind_for}
 use Rattle.move_exec.specs.Programs.{move_program, move_cost}
 use Rattle.vec_exec.specs.Recipes.{recipe_for, makes_bits, makes_halves, list_of, value_row, written_rows, value_of, tells_clips, clips_of, counts_of, length_of, FitsRows, Computes, TellsClips}
@@ -285,10 +287,10 @@ module _ (r : Recipe) (i : VInstr) (c : Cfg) where
 
 -- the program of an instruction that reads whole groups or masks, and what it costs
 abbrev pub whole_program : VInstr → Cfg → List MicroOp
-whole_program i c = option_map_or (λ kind. move_program kind i c) (kind_for i.op) []
+whole_program i c = option_map_or (λ kind. move_program kind i c) (kind_for i.op) (option_map_or (λ kind. fold_program kind i c) (fold_for i.op) [])
 
 abbrev pub whole_cost : VInstr → Cfg → Counts
-whole_cost i c = option_map_or (λ kind. move_cost kind i c) (kind_for i.op) no_counts
+whole_cost i c = option_map_or (λ kind. move_cost kind i c) (kind_for i.op) (option_map_or (λ kind. fold_cost kind i c) (fold_for i.op) no_counts)
 
 -- the program of an instruction, of those that are built
 unfoldable pub prog : VInstr → Cfg → (scalar : ℕ) → List MicroOp

@@ -1,5 +1,5 @@
 // The plan of an instruction.
-ghost use Rattle.std.specs.Prelude.{◌≡◌, ℕ, ◌+◌, ◌*◌, ◌/◌, ◌<◌, ◌≤◌, ◌++◌, [], Some, length, true, false, cond, not, IsTrue, is_some};
+ghost use Rattle.std.specs.Prelude.{◌≡◌, ℕ, ◌+◌, ◌*◌, ◌/◌, ◌<◌, ◌≤◌, ◌++◌, [], Some, None, length, true, false, cond, not, ◌||◌, IsTrue, is_some};
 ghost use Rattle.micro_ir.specs.Replay.{AllInRange, tally};
 ghost use Rattle.rvv_decode.specs.Ranges.{IsInRange};
 ghost use Rattle.vtype_cfg.specs.Legality.{is_legal};
@@ -11,6 +11,7 @@ ghost use Rattle.frame_meaning.specs.Realising.{RealisesInstruction};
 ghost use Rattle.frame_meaning.specs.Shapes.{has_scalar};
 ghost use Rattle.vec_exec.specs.Recipes.{recipe_for};
 ghost use Rattle.vec_exec.specs.Recipes as lists;
+ghost use Rattle.fold_exec.specs.Kinds.{kind_for as fold_for};
 ghost use Rattle.move_exec.specs.Kinds.{kind_for};
 ghost use Rattle.vec_exec.specs.Programs.{prog, whole_program, whole_cost, program_by, is_engine, cost, cost_by, scalar_list, width_of};
 
@@ -65,6 +66,10 @@ const fn is_whole(op: VOp) -> bool
         VOp::Opm(OpmOp::Vmor | OpmOp::Vmnor | OpmOp::Vmorn) => true,
         VOp::Opm(OpmOp::Vmxor | OpmOp::Vmxnor) => true,
         VOp::Opm(OpmOp::Vmsbf | OpmOp::Vmsif | OpmOp::Vmsof) => true,
+        VOp::Opm(OpmOp::Vcpop | OpmOp::Vfirst) => true,
+        VOp::Opm(OpmOp::Vredsum | OpmOp::Vredand | OpmOp::Vredor | OpmOp::Vredxor) => true,
+        VOp::Opm(OpmOp::Vredminu | OpmOp::Vredmin | OpmOp::Vredmaxu | OpmOp::Vredmax) => true,
+        VOp::Opi(OpiOp::Vwredsumu | OpiOp::Vwredsum) => true,
         _ => false,
     }
 }
@@ -285,9 +290,30 @@ fn emit_program(recipe: Recipe, i: &VInstr, cfg: &Cfg, scalar: u32, buf: &mut Mi
     }
 }
 
+// The program of an instruction that makes one number of a whole group or a whole mask.
+fn emit_fold(i: &VInstr, cfg: &Cfg, buf: &mut MicroBuf)
+    requires moves { kind_for i.now.op ≡ None }
+    requires kind { is_some (fold_for i.now.op) ≡ true }
+    requires fields { IsInRange i.now }
+    requires legal { is_legal i.now cfg.now.vtype cfg.now.vstart ≡ true }
+    requires valid { IsTrue (is_valid cfg.now) }
+    requires empty { buf.old.ops ≡ [] }
+    requires room { buf.old.spare ≡ 262144 }
+    ensures program { buf.new.ops ≡ whole_program i.now cfg.now }
+    ensures realises { (x : ℕ) → RealisesInstruction i.now cfg.now x buf.new.ops }
+    ensures cost { tally buf.new.ops ≡ whole_cost i.now cfg.now }
+    ensures range { AllInRange (cfg.now.vlen / 32) buf.new.ops }
+    ensures spare { buf.new.spare + length buf.new.ops ≡ buf.old.spare }
+{
+    match fold_exec::kind_of(i.op) {
+        Some(kind) => fold_exec::plan(kind, i, cfg, buf),
+        None => unreachable!(),
+    }
+}
+
 // The program of an instruction that reads whole groups or masks.
 fn emit_whole(i: &VInstr, cfg: &Cfg, buf: &mut MicroBuf)
-    requires kind { is_some (kind_for i.now.op) ≡ true }
+    requires kind { (is_some (kind_for i.now.op) || is_some (fold_for i.now.op)) ≡ true }
     requires fields { IsInRange i.now }
     requires legal { is_legal i.now cfg.now.vtype cfg.now.vstart ≡ true }
     requires valid { IsTrue (is_valid cfg.now) }
@@ -301,7 +327,7 @@ fn emit_whole(i: &VInstr, cfg: &Cfg, buf: &mut MicroBuf)
 {
     match move_exec::kind_of(i.op) {
         Some(kind) => move_exec::plan(kind, i, cfg, buf),
-        None => unreachable!(),
+        None => emit_fold(i, cfg, buf),
     }
 }
 
