@@ -58,9 +58,9 @@ least-cut x n to t u le same none =
 pub least-few : (x n : ℕ) (t : ℕ → Bool) → n ≤ x → least x n t ≤ x
 unfolding least
 least-few x zero t le = omega arith
-least-few x (suc n) t le = parts (any n t) (t n)
+least-few x (suc n) t le = parts (any n t) (t n) (least-few x n t (omega arith))
   where
-    parts : (a b : Bool) → cond a (least x n t) (cond b n x) ≤ x
-    parts true b = least-few x n t (omega arith)
-    parts false true = omega arith
-    parts false false = omega arith
+    parts : (a b : Bool) → least x n t ≤ x → cond a (least x n t) (cond b n x) ≤ x
+    parts true b before = before
+    parts false true before = omega arith
+    parts false false before = omega arith

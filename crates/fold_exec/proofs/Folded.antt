@@ -1,21 +1,20 @@
 -- A list that brings a fold into the scalar row, with what takes it from there to element 0 of the destination, leaves what a
 -- reduction means.
-use Rattle.std.proofs.Common.{◌≡◌, ◌≢◌, ℕ, zero, suc, ◌+◌, ◌*◌, ◌/◌, ◌%◌, ◌<◌, ◌≤◌, min, Bool, true, false, cond, not, ◌&&◌, ◌||◌, eqb, ltb, List, [], ◌∷◌, ◌++◌, refl, sym, ◌∙◌, ap, subst, arith, inl, inr, ⊎_elim}
+use Rattle.std.proofs.Common.{◌≡◌, ℕ, suc, ◌+◌, ◌*◌, ◌/◌, ◌%◌, ◌<◌, ◌≤◌, min, Bool, true, false, not, ◌||◌, eqb, ltb, List, ◌++◌, refl, sym, ◌∙◌, ap, arith, inl, inr, ⊎_elim}
 use Rattle.std.proofs.lemmas.Bool.{and_parts, ltb-true, cases_lt, false≢true}
 use Rattle.std.proofs.Math.Nat.{mul-le-mul_right}
-use Rattle.bit_laws.specs.Numbers.{number, low, bit_of}
+use Rattle.bit_laws.specs.Numbers.{low, bit_of}
 use Rattle.bit_laws.proofs.Numbers.{bit-number, number-bits}
 use Rattle.bit_rows.specs.Slices.{Slices}
 use Rattle.cam_chain.specs.Views.{registers_of}
 use Rattle.element_ops.specs.Elements.{Registers, element_of, element_in, mask_bit_of, bits_of}
 use Rattle.element_ops.proofs.Reading.{element-bits}
 use Rattle.fold_laws.specs.Folds.{fold_chosen}
-use Rattle.fold_laws.proofs.Chosen.{fold-same}
+use Rattle.row_counts.proofs.Chosen.{fold-same}
 use Rattle.frame_laws.specs.Bytes.{AreResults}
-use Rattle.frame_laws.specs.Bytes as frame
 use Rattle.frame_laws.specs.Laws.{Legal, AllRealised, Holds}
-use Rattle.frame_laws.specs.Programs.{fill, one_register, first_registers}
-use Rattle.frame_laws.specs.Realising.{Splatted, Realised}
+use Rattle.frame_laws.specs.Programs.{one_register, first_registers}
+use Rattle.frame_laws.specs.Realising.{Splatted}
 use Rattle.frame_laws.specs.Shapes.{Shape, Bounds, Bounded}
 use Rattle.frame_laws.proofs.Bytes.{held_law, holds-own, are-registers_of, bits-registers_of}
 use Rattle.frame_laws.proofs.Elements.{in_element}
@@ -34,7 +33,6 @@ use Rattle.micro_ir.specs.Steps.{micros}
 use Rattle.micro_ir.specs.WorkRows.{scalar_row}
 use Rattle.micro_ir.proofs.Lift.{replay-columns}
 use Rattle.micro_ir.proofs.Lists.{replay-append}
-use Rattle.row_counts.specs.declared.span.Span.{Span}
 use Rattle.row_counts.specs.Folds.{group_element, is_left_in, fold_of, Folds}
 use Rattle.row_counts.specs.Lists.{commit_first}
 use Rattle.row_counts.specs.Puts.{Puts}
@@ -45,6 +43,7 @@ use Rattle.rvv_meaning.specs.Elementwise.{Elementwise, registers_after}
 use Rattle.steer_net.specs.Network.{bit_in}
 use Rattle.vtype_cfg.specs.declared.configuration.Cfg.{Cfg}
 use Rattle.fold_exec.specs.Programs.{span_of, rest_list}
+use Rattle.fold_exec.proofs.Reduces.{widest}
 
 -- ---- a number in the scalar row
 
@@ -174,18 +173,18 @@ module _ (i : VInstr) (c : Cfg) (bits z : ℕ) (width : IsElementWidth bits) (vd
 
 -- ---- the fold
 
-module _ (step : (a e : ℕ) → ℕ) (extend : ℕ → ℕ) (i : VInstr) (c : Cfg) (bits : ℕ) (sew : IsElementWidth c.vtype.sew) (width : IsElementWidth bits) (vs1 : i.vs1 < 32) (vd : i.vd < 32) (start : c.vstart ≡ 0) where
-  -- the fold that the instruction means
-  abbrev pub meant : List (List ℕ) → ℕ
-  meant v =
-      fold_chosen step (element_of (c.vlen / 8) v i.vs1 bits 0) (λ e. i.vm || mask_bit_of v 0 e) (λ e. extend (element_of (c.vlen / 8) v i.vs2 c.vtype.sew e)) c.vl
+-- the fold that the instruction means
+abbrev pub meant : (step : (a e : ℕ) → ℕ) (extend : ℕ → ℕ) → VInstr → Cfg → (bits : ℕ) → List (List ℕ) → ℕ
+meant step extend i c bits v =
+    fold_chosen step (element_of (c.vlen / 8) v i.vs1 bits 0) (λ e. i.vm || mask_bit_of v 0 e) (λ e. extend (element_of (c.vlen / 8) v i.vs2 c.vtype.sew e)) c.vl
 
+module _ (step : (a e : ℕ) → ℕ) (extend : ℕ → ℕ) (i : VInstr) (c : Cfg) (bits : ℕ) (sew : IsElementWidth c.vtype.sew) (width : IsElementWidth bits) (vs1 : i.vs1 < 32) (vd : i.vd < 32) (start : c.vstart ≡ 0) where
   left-in : (a b : Bool) → (not (not a) || b) ≡ (a || b)
   left-in true b = refl
   left-in false b = refl
 
   fold-meant : (s : Slices) → 0 < s.columns → c.vlen ≡ 32 * s.columns → SpanFits c.vtype.sew s.columns (span_of i c) → c.vl ≤ c.vlen
-      → fold_of step extend c.vtype.sew bits i.vs1 (span_of i c) s ≡ meant (registers_of s)
+      → fold_of step extend c.vtype.sew bits i.vs1 (span_of i c) s ≡ meant step extend i c bits (registers_of s)
   unfolding bits_of
   fold-meant s some long fits short =
       let v = registers_of s in
@@ -207,25 +206,21 @@ module _ (step : (a e : ℕ) → ℕ) (extend : ℕ → ℕ) (i : VInstr) (c : C
       ) in
       rw (size, first)
       (fold-same step (element_of (4 * s.columns) v i.vs1 bits 0) (is_left_in (span_of i c) s) (λ e. i.vm || mask_bit_of v 0 e) (λ e. extend (group_element c.vtype.sew i.vs2 s e)) (λ e. extend (element_of (4 * s.columns) v i.vs2 c.vtype.sew e)) c.vl each)
-    where
-      widest : (w : ℕ) → IsElementWidth w → w ≤ 32
-      widest w (inl is) = omega arith
-      widest w (inr (inl is)) = omega arith
-      widest w (inr (inr is)) = omega arith
 
   -- where the vector length is 0, the number does not count
   pub folds-left : (pre : List MicroOp) (s : Slices) → Folds step extend c.vtype.sew bits i.vs1 (span_of i c) pre → 0 < s.columns → c.vlen ≡ 32 * s.columns → SpanFits c.vtype.sew s.columns (span_of i c) → c.vl ≤ c.vlen
-      → registers_of (replay (pre ++ (commit_first bits (span_of i c) i.vd ++ rest_list c bits i.vd)) s) ≡ registers_after c (first_elements i c bits (meant (registers_of s))) (registers_of s)
+      → registers_of (replay (pre ++ (commit_first bits (span_of i c) i.vd ++ rest_list c bits i.vd)) s) ≡ registers_after c (first_elements i c bits (meant step extend i c bits (registers_of s))) (registers_of s)
   unfolding Folds
   folds-left pre s folds some long fits short =
       let v = registers_of s in
       let t = replay pre s in
       let f = folds s fits start in
+      let value : ℕ = meant step extend i c bits v in
       ap registers_of (replay-append pre (commit_first bits (span_of i c) i.vd ++ rest_list c bits i.vd) s)
       ∙ ⊎_elim
       (λ (full : 0 < c.vl).
-      let same : low bits t.num ≡ low bits (meant v) = f.number full ∙ ap (low bits) (fold-meant s some long fits short) in
-      after-list i c bits (meant v) width vd start (meant v) s t some long (puts-low bits t.num (meant v) s t same f.puts) (λ l. refl))
+      let same : low bits t.num ≡ low bits value = f.number full ∙ ap (low bits) (fold-meant s some long fits short) in
+      after-list i c bits value width vd start value s t some long (puts-low bits t.num value s t same f.puts) (λ l. refl))
       (λ (empty : c.vl ≤ 0).
-      after-list i c bits t.num width vd start (meant v) s t some long f.puts (λ l. absurd (omega arith)))
+      after-list i c bits t.num width vd start value s t some long f.puts (λ l. absurd (omega arith)))
       (cases_lt 0 c.vl)

@@ -2,7 +2,7 @@
 pub mod Cuts
 pub mod Table
 pub mod Quiet
-pub mod Numbers
+pub mod Counting
 pub mod Reduces
 pub mod Folded
-pub mod Reductions
+pub mod Reducing

@@ -4,19 +4,16 @@ use Rattle.bit_laws.specs.Numbers.{bit_of}
 use Rattle.frame_meaning.proofs.Quiet.{IsQuiet, quiet-none, quiet-keep, quiet-steps, quiet-append}
 use Rattle.gen_reduce.specs.declared.kinds.Reduction.{Reduction}
 use Rattle.gen_reduce.specs.declared.kinds.Reduction.TheVariants.{Redsum, Redand, Redor, Redxor, Wredsumu, Wredsum}
-use Rattle.gen_reduce.specs.Kinds.{counting_of, first_counting_of, width_of, start_of, reduction_counts_list}
+use Rattle.gen_reduce.specs.Kinds.{counting_of, first_counting_of, width_of, reduction_counts_list}
 use Rattle.micro_ir.specs.declared.op.MicroOp.{MicroOp}
-use Rattle.micro_ir.specs.declared.op.MicroOp.TheVariants.{Window, Search, UpdateBy, SetNum}
 use Rattle.micro_ir.specs.Pieces.{clear, commit}
 use Rattle.micro_ir.specs.Replay.{clips, sets_clip}
 use Rattle.micro_ir.specs.Steps.{Step, micros}
-use Rattle.micro_ir.specs.Subs.{subs_of}
 use Rattle.micro_ir.specs.WorkRows.{active_row, scalar_row, free_row}
 use Rattle.reduce_tree.specs.declared.weights.How.{How}
 use Rattle.row_counts.specs.declared.counts.Counting.{Counting}
 use Rattle.row_counts.specs.declared.span.Span.{Span}
 use Rattle.row_counts.specs.Lists.{how_at, count_bits, span_window, count_rows, first_window, count_first, commit_first}
-use Rattle.row_orders.specs.declared.orders.Order.{Order}
 use Rattle.row_orders.specs.declared.sources.Source.{Source}
 use Rattle.row_orders.specs.Kinds.{order_list}
 use Rattle.row_orders.specs.Kinds as orders

@@ -1,29 +1,31 @@
 -- What legality says of a reduction, and that its group lies in the registers.
-use Rattle.std.proofs.Common.{◌≡◌, ℕ, zero, suc, ◌+◌, ◌*◌, ◌/◌, ◌<◌, ◌≤◌, Bool, true, false, cond, not, Some, refl, sym, ◌∙◌, ap, subst, arith, ◌⊎◌, inl, inr}
+use Rattle.std.proofs.Common.{◌≡◌, ◌≢◌, ℕ, zero, suc, ◌+◌, ◌*◌, ◌/◌, ◌<◌, ◌≤◌, Bool, true, false, cond, Some, refl, sym, ◌∙◌, ap, arith, inl, inr}
 use Rattle.std.specs.Prelude.{IsTrue}
-use Rattle.std.proofs.lemmas.Nat.{div-mul-add}
+use Rattle.std.proofs.lemmas.Bool.{false≢true}
+use Rattle.std.proofs.lemmas.Nat.{div-mul-add, mul-le}
 use Rattle.std.proofs.Math.Nat.{mul-le-mul_left}
 use Rattle.frame_laws.proofs.Classes.Operands.{whole-register}
 use Rattle.frame_meaning.proofs.OperandWidths.{width-of}
 use Rattle.frame_meaning.proofs.Wholes.{valid-parts}
 use Rattle.legal_groups.specs.Facts.{IsElementWidth, registers_for, group_count}
-use Rattle.legal_groups.specs.Rules.{Obeys}
 use Rattle.legal_groups.proofs.Groups.{count-is, vlmax-held}
 use Rattle.legal_groups.proofs.Rules.{legal_law}
-use Rattle.legal_groups.proofs.Widths.{vlmax-short, width-least}
+use Rattle.legal_groups.proofs.Widths.{vlmax-short}
+use Rattle.gen_reduce.specs.Kinds.{is_wide}
+use Rattle.row_counts.specs.declared.span.Span.{Span}
 use Rattle.row_counts.specs.Spans.{IsSpan, SpanFits}
 use Rattle.rvv_decode.specs.declared.instruction.VInstr.{VInstr}
 use Rattle.vtype_cfg.specs.declared.configuration.Cfg.{Cfg}
-use Rattle.vtype_cfg.specs.declared.vtype.Vtype.{Vtype}
 use Rattle.vtype_cfg.specs.Classes.{reduction, widening_reduction, row_of, class_of, starts_at_zero, needs_no_setting}
 use Rattle.vtype_cfg.specs.Legality.{is_legal}
-use Rattle.vtype_cfg.specs.Settings.{is_valid, is_legal_vlen}
+use Rattle.vtype_cfg.specs.Settings.{is_valid}
 use Rattle.vtype_cfg.proofs.Lengths.{vlen_from, vlen_words}
 use Rattle.vtype_cfg.proofs.Supported.{vlen_bounded}
 use Rattle.fold_exec.specs.declared.kinds.Folding.{Folding}
+use Rattle.fold_exec.specs.declared.kinds.Folding.TheVariants.{Counted, Ordered}
 use Rattle.fold_exec.specs.declared.kinds.Kind.TheVariants.{Fold}
 use Rattle.fold_exec.specs.Kinds.{kind_for, is_widening, result_bits}
-use Rattle.fold_exec.specs.Programs.{span_of}
+use Rattle.fold_exec.specs.Programs.{span_of, folding_length}
 use Rattle.fold_exec.proofs.Table.{of-kind}
 
 -- where the registers of a legal reduction lie, and how wide its elements are
@@ -45,6 +47,37 @@ reduces-as false i c valid legal class =
     let o = legal_law reduction i c.vtype c.vstart (valid-parts c valid).setting legal class in
     let setting = o.setting refl in
     record { start = o.start refl; vill = setting.0; sew = setting.1; few = o.vs2.few; room = o.vs2.room (omega arith); most = o.vd.wide }
+
+pub widest : (w : ℕ) → IsElementWidth w → w ≤ 32
+widest w (inl is) = omega arith
+widest w (inr (inl is)) = omega arith
+widest w (inr (inr is)) = omega arith
+
+pub last-width : (w : ℕ) → IsElementWidth w → w ≢ 8 → w ≢ 16 → w ≡ 32
+last-width w (inl is) a b = absurd (a is)
+last-width w (inr (inl is)) a b = absurd (b is)
+last-width w (inr (inr is)) a b = is
+
+-- where the result is twice as wide, an element is narrow
+pub narrow : (wide : Bool) (w : ℕ) → cond wide (2 * w) w ≤ 32 → wide ≡ true → w ≤ 16
+narrow true w most is = omega arith
+narrow false w most is = absurd (false≢true is)
+
+-- how long a list is, at most
+counted-few : (wide : Bool) (w regs : ℕ) → w ≤ 32 → regs ≤ 8 → regs * (2 * w + 1) + (2 * cond wide (2 * w) w + 11) ≤ 4096
+counted-few wide w regs narrow few =
+    let rows : regs * (2 * w + 1) ≤ 8 * 65 = mul-le regs (2 * w + 1) 8 65 few (omega arith) in
+    chosen wide rows
+  where
+    chosen : (b : Bool) → regs * (2 * w + 1) ≤ 8 * 65 → regs * (2 * w + 1) + (2 * cond b (2 * w) w + 11) ≤ 4096
+    chosen true rows = omega arith
+    chosen false rows = omega arith
+
+length-few : (folding : Folding) (w : ℕ) (span : Span) → w ≤ 32 → span.regs ≤ 8 → folding_length folding w span ≤ 4096
+length-few (Counted kind) w span narrow few = counted-few (is_wide kind) w span.regs narrow few
+length-few (Ordered kind) w span narrow few =
+    let all : w * (7 * (span.regs + 1) + 4) ≤ 32 * 67 = mul-le w (7 * (span.regs + 1) + 4) 32 67 narrow (omega arith) in
+    omega arith
 
 -- twice a width, where that is no more than the widest
 twice-width : (w : ℕ) → IsElementWidth w → 2 * w ≤ 32 → IsElementWidth (2 * w)
@@ -115,3 +148,7 @@ module _ (folding : Folding) (i : VInstr) (c : Cfg) (is : kind_for i.op ≡ Some
 
     pub span-fits : SpanFits c.vtype.sew columns (span_of i c)
     span-fits = record { group = span-is; per = per-is; mask = λ masked. omega (arith, length-short) }
+
+  -- how long the list is, at most
+  pub folding-few : folding_length folding c.vtype.sew (span_of i c) ≤ 4096
+  folding-few = length-few folding c.vtype.sew (span_of i c) (widest c.vtype.sew reduces.sew) group-few

@@ -1,6 +1,5 @@
 -- The programs of the kinds, what their lists fold, and what they cost.
-use Rattle.std.specs.Prelude.{ℕ, ◌+◌, ◌/◌, Bool, false, cond, not, ◌&&◌, min, List, [], ◌∷◌, ◌++◌}
-use lib.Dec.{ltb}
+use Rattle.std.specs.Prelude.{ℕ, ◌+◌, ◌/◌, false, cond, not, min, List, [], ◌∷◌, ◌++◌}
 use Rattle.bit_rows.specs.Slices.{Slices}
 use Rattle.cam_chain.specs.ChainValue.{no_counts}
 use Rattle.cam_chain.specs.declared.counts.Counts.{Counts}

@@ -1,5 +1,5 @@
 -- The programs of numbers of masks realise their instructions.
-use Rattle.std.proofs.Common.{◌≡◌, ◌≢◌, ℕ, ◌+◌, ◌*◌, ◌/◌, ◌%◌, ◌^◌, ◌<◌, ◌≤◌, Bool, true, false, cond, not, ◌&&◌, ◌||◌, leb, eqb, List, ◌∷◌, Option, Some, length, refl, sym, ◌∙◌, ap, subst, arith}
+use Rattle.std.proofs.Common.{◌≡◌, ◌≢◌, ℕ, ◌+◌, ◌*◌, ◌/◌, ◌%◌, ◌<◌, ◌≤◌, Bool, true, false, cond, not, ◌&&◌, ◌||◌, leb, eqb, List, Option, Some, refl, sym, ◌∙◌, ap, subst, arith}
 use Rattle.std.specs.Prelude.{IsTrue}
 use Rattle.std.proofs.lemmas.Bool.{lt-ltb, le-ltb, le-leb, ne_eqb}
 use Rattle.std.proofs.Math.Nat.{mod-eq_of_lt}
@@ -15,7 +15,6 @@ use Rattle.gen_reduce.specs.Masks.{is_set, MakesNumber}
 use Rattle.legal_groups.specs.Rules.{Obeys}
 use Rattle.legal_groups.proofs.Rules.{legal_law}
 use Rattle.legal_groups.proofs.Widths.{vlmax-short}
-use Rattle.micro_ir.specs.declared.op.MicroOp.{MicroOp}
 use Rattle.micro_ir.specs.Measures.{Measured, counts}
 use Rattle.micro_ir.specs.Replay.{replay, clips, AllInRange, tally}
 use Rattle.micro_ir.specs.WorkRows.{active_row}
@@ -66,8 +65,15 @@ set-here : (vm : Bool) (row to : ℕ) (s : Slices) (e : ℕ) → row < 32 → e 
 unfolding bits_of
 set-here vm row to s e register inside below =
     let n : row ≢ active_row = omega arith in
-    rw (window-bit active_row 0 to (not vm) s e inside, window-bit row 0 to (not vm) s e inside, ne_eqb row active_row n, lt-ltb e to below, le-leb 0 e (omega arith),
-    bits-registers_of s 0 e (omega arith) inside, bits-registers_of s row e register inside) (left_in vm (bit_in s 0 e) (bit_in s row e))
+    rw (
+      window-bit active_row 0 to (not vm) s e inside,
+      window-bit row 0 to (not vm) s e inside,
+      ne_eqb row active_row n,
+      lt-ltb e to below,
+      le-leb 0 e (omega arith),
+      bits-registers_of s 0 e (omega arith) inside,
+      bits-registers_of s row e register inside,
+    ) (left_in vm (bit_in s 0 e) (bit_in s row e))
   where
     left_in : (a b c : Bool) → ((not (not a) || b) && c) ≡ ((a || b) && c)
     left_in true b c = refl
@@ -126,7 +132,7 @@ number-quiet First row s = refl
 -- ---- the program
 
 module _ (kind : MaskNumber) (i : VInstr) (c : Cfg) (x : ℕ) (is : kind_for i.op ≡ Some (Number kind)) (fields : IsInRange i)
-  (valid : IsTrue (is_valid c)) (legal : is_legal i c.vtype c.vstart ≡ true) where
+    (valid : IsTrue (is_valid c)) (legal : is_legal i c.vtype c.vstart ≡ true) where
   obeys : Obeys mask_count i c.vtype c.vstart
   obeys = legal_law mask_count i c.vtype c.vstart (valid-parts c valid).setting legal (of-kind i.op (Number kind) is).class
 
