@@ -100,4 +100,4 @@ module _ (class : Class) (i : VInstr) (c : Cfg) (written : GroupWritten class i 
       let to : i.vd + g < 32 = omega arith in
       let op : MicroOp = Index result_row w (g * (c.vlen / w)) in
       let all : MovesAll op w (i.vd + g) (move_ops w op (i.vd + g)) = moves-all op w (i.vd + g) (omega (arith, least)) a.lanes to (refl, refl) in
-      realises-move op w (i.vd + g) (move_ops w op (i.vd + g)) all number_shape (frame_bounds (group_frame i c)) g refl refl (λ v p m. refl)
+      realises-move op w (i.vd + g) (move_ops w op (i.vd + g)) (omega (arith, least)) all number_shape (frame_bounds (group_frame i c)) g refl refl (λ v p m active. refl)

@@ -2,6 +2,7 @@
 pub mod Bodies
 pub mod Frames
 pub mod Kinds
+pub mod Moves
 pub mod Costs
 pub mod Programs
 pub mod Laws

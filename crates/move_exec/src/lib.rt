@@ -5,7 +5,9 @@
 mod bodies;
 mod frames;
 mod kinds;
+mod moves;
 mod planning;
 
 pub use kinds::{Kind, kind_of};
+pub use moves::{Move, move_of};
 pub use planning::plan;
