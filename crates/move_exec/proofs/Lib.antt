@@ -4,7 +4,10 @@ pub mod Meant
 pub mod Measured
 pub mod Masks
 pub mod Groups
-pub mod Sound
+pub mod Valid
+pub mod Sized
 pub mod Sources
+pub mod Standing
+pub mod Slides
 pub mod Realised
 pub mod Emitted
