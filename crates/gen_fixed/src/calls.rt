@@ -1,17 +1,14 @@
 // A call for each kind: a row of the tables of averages, of sums and differences that are clipped, and
 // of clips.
-ghost use Rattle.std.specs.Prelude.{◌≡◌, Bool, ◌+◌, ◌-◌, ◌*◌, ◌<◌, ◌≤◌, ◌⊎◌, false, ◌++◌};
-ghost use Rattle.micro_ir.specs.Kinds.{Realises};
+ghost use Rattle.std.specs.Prelude.{◌≡◌, ◌+◌, ◌-◌, ◌*◌, ◌<◌, ◌≤◌, ◌⊎◌, false, ◌++◌};
 ghost use Rattle.micro_ir.specs.Measures.{counts, Measured};
 ghost use Rattle.micro_ir.specs.WorkRows.{IsOperandRow};
 ghost use Rattle.gen_shift.specs.Rows.{is_among};
-ghost use Rattle.row_views.specs.Clips.{ClipsWhere};
 ghost use Rattle.gen_fixed.specs.declared.kinds.Average.TheVariants.{Avgu, Avg};
 ghost use Rattle.gen_fixed.specs.declared.kinds.Saturating.TheVariants.{Saddu, Sadd, Ssubu, Ssub};
 ghost use Rattle.gen_fixed.specs.declared.kinds.Clipping.TheVariants.{Clipu, Clip};
-ghost use Rattle.gen_fixed.specs.Values.{vsaddu, vsaddu_clips, vsadd, vsadd_clips, vssubu, vssubu_clips, vssub, vssub_clips};
 ghost use Rattle.gen_fixed.specs.Kinds.{average_ops, average_counts, average_length, saturating_ops, saturating_counts, clip_ops, clip_counts, clip_length};
-ghost use Rattle.gen_fixed.specs.Laws.{RealisesAverage, LeavesClipped, LeavesFlag, clip_rows};
+ghost use Rattle.gen_fixed.specs.Laws.{RealisesAverage, RealisesSaturating, ClipsSaturating, LeavesClipped, LeavesFlag, clip_rows};
 
 use crate::kinds::{Average, Clipping, Saturating};
 use crate::lists::{emit_average, emit_saturating};
@@ -59,11 +56,8 @@ pub fn emit_saddu<W: Width>(buf: &mut MicroBuf, at: &Place)
     requires room { 14 * W.BITS + 14 ≤ buf.old.spare }
     ensures ops { buf.new.ops ≡ buf.old.ops ++ saturating_ops Saddu W.BITS at.now }
     ensures spare { buf.new.spare + (14 * W.BITS + 14) ≡ buf.old.spare }
-    ensures realises { (reads : Bool) → Realises W.BITS at.now.to reads
-        (λ n c. vsaddu W.BITS at.now.mode (n at.now.a) (n at.now.b))
-        (saturating_ops Saddu W.BITS at.now) }
-    ensures clips { ClipsWhere W.BITS (λ n. vsaddu_clips W.BITS at.now.mode (n at.now.a) (n at.now.b))
-        (saturating_ops Saddu W.BITS at.now) }
+    ensures realises { RealisesSaturating Saddu W.BITS at.now }
+    ensures clips { ClipsSaturating Saddu W.BITS at.now }
     ensures cost { Measured (saturating_counts Saddu W.BITS) (14 * W.BITS + 14) (saturating_ops Saddu W.BITS at.now) }
 {
     emit_saturating::<W>(buf, at, Saturating::Saddu);
@@ -78,11 +72,8 @@ pub fn emit_sadd<W: Width>(buf: &mut MicroBuf, at: &Place)
     requires room { 17 * W.BITS + 19 ≤ buf.old.spare }
     ensures ops { buf.new.ops ≡ buf.old.ops ++ saturating_ops Sadd W.BITS at.now }
     ensures spare { buf.new.spare + (17 * W.BITS + 19) ≡ buf.old.spare }
-    ensures realises { (reads : Bool) → Realises W.BITS at.now.to reads
-        (λ n c. vsadd W.BITS at.now.mode (n at.now.a) (n at.now.b))
-        (saturating_ops Sadd W.BITS at.now) }
-    ensures clips { ClipsWhere W.BITS (λ n. vsadd_clips W.BITS at.now.mode (n at.now.a) (n at.now.b))
-        (saturating_ops Sadd W.BITS at.now) }
+    ensures realises { RealisesSaturating Sadd W.BITS at.now }
+    ensures clips { ClipsSaturating Sadd W.BITS at.now }
     ensures cost { Measured (saturating_counts Sadd W.BITS) (17 * W.BITS + 19) (saturating_ops Sadd W.BITS at.now) }
 {
     emit_saturating::<W>(buf, at, Saturating::Sadd);
@@ -97,11 +88,8 @@ pub fn emit_ssubu<W: Width>(buf: &mut MicroBuf, at: &Place)
     requires room { 14 * W.BITS + 12 ≤ buf.old.spare }
     ensures ops { buf.new.ops ≡ buf.old.ops ++ saturating_ops Ssubu W.BITS at.now }
     ensures spare { buf.new.spare + (14 * W.BITS + 12) ≡ buf.old.spare }
-    ensures realises { (reads : Bool) → Realises W.BITS at.now.to reads
-        (λ n c. vssubu W.BITS at.now.mode (n at.now.a) (n at.now.b))
-        (saturating_ops Ssubu W.BITS at.now) }
-    ensures clips { ClipsWhere W.BITS (λ n. vssubu_clips W.BITS at.now.mode (n at.now.a) (n at.now.b))
-        (saturating_ops Ssubu W.BITS at.now) }
+    ensures realises { RealisesSaturating Ssubu W.BITS at.now }
+    ensures clips { ClipsSaturating Ssubu W.BITS at.now }
     ensures cost { Measured (saturating_counts Ssubu W.BITS) (14 * W.BITS + 12) (saturating_ops Ssubu W.BITS at.now) }
 {
     emit_saturating::<W>(buf, at, Saturating::Ssubu);
@@ -116,11 +104,8 @@ pub fn emit_ssub<W: Width>(buf: &mut MicroBuf, at: &Place)
     requires room { 17 * W.BITS + 19 ≤ buf.old.spare }
     ensures ops { buf.new.ops ≡ buf.old.ops ++ saturating_ops Ssub W.BITS at.now }
     ensures spare { buf.new.spare + (17 * W.BITS + 19) ≡ buf.old.spare }
-    ensures realises { (reads : Bool) → Realises W.BITS at.now.to reads
-        (λ n c. vssub W.BITS at.now.mode (n at.now.a) (n at.now.b))
-        (saturating_ops Ssub W.BITS at.now) }
-    ensures clips { ClipsWhere W.BITS (λ n. vssub_clips W.BITS at.now.mode (n at.now.a) (n at.now.b))
-        (saturating_ops Ssub W.BITS at.now) }
+    ensures realises { RealisesSaturating Ssub W.BITS at.now }
+    ensures clips { ClipsSaturating Ssub W.BITS at.now }
     ensures cost { Measured (saturating_counts Ssub W.BITS) (17 * W.BITS + 19) (saturating_ops Ssub W.BITS at.now) }
 {
     emit_saturating::<W>(buf, at, Saturating::Ssub);

@@ -2,3 +2,6 @@
 pub mod Costs
 pub mod Firsts
 pub mod MaskLaws
+pub mod Sums
+pub mod Bitwise
+pub mod Folding

@@ -38,7 +38,7 @@ view-place s r e = let z : e * 1 + 0 ≡ e = omega arith in view-in 1 s e r 0 (o
 places-are : (s : Slices) → per_row 1 s ≡ 32 * s.columns
 places-are s = omega arith
 
-count-few : (n : ℕ) (t : ℕ → Bool) → count n t ≤ n
+pub count-few : (n : ℕ) (t : ℕ → Bool) → count n t ≤ n
 unfolding total
 count-few zero t = omega arith
 count-few (suc n) t = elim (t n) as (λ b. total n (λ k. cond (t k) 1 0) + cond b 1 0 ≤ suc n) [

@@ -2,3 +2,4 @@
 pub mod Kinds
 pub mod Masks
 pub mod Laws
+pub mod Folding

@@ -5,6 +5,7 @@ ghost use Rattle.row_counts.specs.Spans.{IsSpan};
 ghost use Rattle.gen_reduce.specs.declared.kinds.Reduction.TheVariants.{Redsum, Redand, Redor, Redxor, Wredsumu, Wredsum};
 ghost use Rattle.gen_reduce.specs.Kinds.{reduction_ops};
 ghost use Rattle.gen_reduce.specs.Laws.{SpendsReduction};
+ghost use Rattle.gen_reduce.specs.Folding.{FoldsAs};
 
 use crate::kinds::Reduction;
 use crate::lists::emit_reduction;
@@ -22,6 +23,7 @@ pub fn emit_redsum<W: Width>(buf: &mut MicroBuf, at: &Place, span: &Span)
     ensures ops { buf.new.ops ≡ buf.old.ops ++ reduction_ops Redsum W.BITS at.now span.now }
     ensures spare { buf.new.spare + (span.now.regs * (2 * W.BITS + 1) + (2 * W.BITS + 11)) ≡ buf.old.spare }
     ensures cost { SpendsReduction Redsum W.BITS at.now span.now }
+    ensures folds { FoldsAs Redsum W.BITS at.now.b span.now }
 {
     emit_reduction::<W>(buf, at, span, Reduction::Redsum);
 }
@@ -36,6 +38,7 @@ pub fn emit_redand<W: Width>(buf: &mut MicroBuf, at: &Place, span: &Span)
     ensures ops { buf.new.ops ≡ buf.old.ops ++ reduction_ops Redand W.BITS at.now span.now }
     ensures spare { buf.new.spare + (span.now.regs * (2 * W.BITS + 1) + (2 * W.BITS + 11)) ≡ buf.old.spare }
     ensures cost { SpendsReduction Redand W.BITS at.now span.now }
+    ensures folds { FoldsAs Redand W.BITS at.now.b span.now }
 {
     emit_reduction::<W>(buf, at, span, Reduction::Redand);
 }
@@ -50,6 +53,7 @@ pub fn emit_redor<W: Width>(buf: &mut MicroBuf, at: &Place, span: &Span)
     ensures ops { buf.new.ops ≡ buf.old.ops ++ reduction_ops Redor W.BITS at.now span.now }
     ensures spare { buf.new.spare + (span.now.regs * (2 * W.BITS + 1) + (2 * W.BITS + 11)) ≡ buf.old.spare }
     ensures cost { SpendsReduction Redor W.BITS at.now span.now }
+    ensures folds { FoldsAs Redor W.BITS at.now.b span.now }
 {
     emit_reduction::<W>(buf, at, span, Reduction::Redor);
 }
@@ -64,6 +68,7 @@ pub fn emit_redxor<W: Width>(buf: &mut MicroBuf, at: &Place, span: &Span)
     ensures ops { buf.new.ops ≡ buf.old.ops ++ reduction_ops Redxor W.BITS at.now span.now }
     ensures spare { buf.new.spare + (span.now.regs * (2 * W.BITS + 1) + (2 * W.BITS + 11)) ≡ buf.old.spare }
     ensures cost { SpendsReduction Redxor W.BITS at.now span.now }
+    ensures folds { FoldsAs Redxor W.BITS at.now.b span.now }
 {
     emit_reduction::<W>(buf, at, span, Reduction::Redxor);
 }
@@ -80,6 +85,7 @@ pub fn emit_wredsumu<W: Width>(buf: &mut MicroBuf, at: &Place, span: &Span)
     ensures ops { buf.new.ops ≡ buf.old.ops ++ reduction_ops Wredsumu W.BITS at.now span.now }
     ensures spare { buf.new.spare + (span.now.regs * (2 * W.BITS + 1) + (4 * W.BITS + 11)) ≡ buf.old.spare }
     ensures cost { SpendsReduction Wredsumu W.BITS at.now span.now }
+    ensures folds { FoldsAs Wredsumu W.BITS at.now.b span.now }
 {
     emit_reduction::<W>(buf, at, span, Reduction::Wredsumu);
 }
@@ -96,6 +102,7 @@ pub fn emit_wredsum<W: Width>(buf: &mut MicroBuf, at: &Place, span: &Span)
     ensures ops { buf.new.ops ≡ buf.old.ops ++ reduction_ops Wredsum W.BITS at.now span.now }
     ensures spare { buf.new.spare + (span.now.regs * (2 * W.BITS + 1) + (4 * W.BITS + 11)) ≡ buf.old.spare }
     ensures cost { SpendsReduction Wredsum W.BITS at.now span.now }
+    ensures folds { FoldsAs Wredsum W.BITS at.now.b span.now }
 {
     emit_reduction::<W>(buf, at, span, Reduction::Wredsum);
 }

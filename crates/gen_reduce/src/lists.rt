@@ -5,6 +5,7 @@ ghost use Rattle.row_counts.specs.Spans.{IsSpan};
 ghost use Rattle.row_counts.specs.Lists.{count_first};
 ghost use Rattle.gen_reduce.specs.Kinds.{is_wide, reduction_ops, reduction_length};
 ghost use Rattle.gen_reduce.specs.Laws.{SpendsReduction};
+ghost use Rattle.gen_reduce.specs.Folding.{FoldsAs};
 
 use crate::kinds::{Reduction, counting_of, first_counting_of, start_of, width_of};
 use bit_laws::Width;
@@ -35,6 +36,7 @@ pub fn emit_reduction<W: Width>(buf: &mut MicroBuf, at: &Place, span: &Span, kin
     ensures ops { buf.new.ops ≡ buf.old.ops ++ reduction_ops kind W.BITS at.now span.now }
     ensures spare { buf.new.spare + reduction_length kind W.BITS span.now ≡ buf.old.spare }
     ensures cost { SpendsReduction kind W.BITS at.now span.now }
+    ensures folds { FoldsAs kind W.BITS at.now.b span.now }
 {
     let width = width_of::<W>(kind);
     buf.push(MicroOp::SetNum {

@@ -3,5 +3,8 @@ pub mod Written
 pub mod Costs
 pub mod Widths
 pub mod Rows
+pub mod Chosen
 pub mod Taken
 pub mod Sums
+pub mod Groups
+pub mod Folding

@@ -1,5 +1,5 @@
 -- Numbers with the bits of the start flipped: the greatest of these is that of the element that an order wants.
-use Rattle.std.proofs.Common.{◌≡◌, ◌≢◌, ℕ, zero, suc, ◌+◌, ◌-◌, ◌*◌, ◌%◌, ◌^◌, ◌<◌, ◌≤◌, Bool, true, false, cond, not, ltb, max, int_lt, refl, sym, ◌∙◌, ap, arith, ⊎_elim}
+use Rattle.std.proofs.Common.{◌≡◌, ◌≢◌, ℕ, zero, suc, ◌+◌, ◌-◌, ◌*◌, ◌%◌, ◌^◌, ◌<◌, ◌≤◌, Bool, true, false, cond, not, ltb, int_lt, refl, sym, ◌∙◌, ap, arith, ⊎_elim}
 use Rattle.std.proofs.lemmas.Bool.{cases_eq, cases_lt, lt-ltb, le-ltb}
 use Rattle.std.proofs.lemmas.Nat.{mod-mul-add}
 use Rattle.std.proofs.lemmas.Nat.Bits.{bit_at-zero, bit_at-pow_same, bit_at-pow_other, bit_at_ones, bit_at_ones_above}
@@ -9,11 +9,11 @@ use Rattle.bit_laws.specs.Signed.{signed}
 use Rattle.bit_laws.proofs.Ints.{inverts, low-small}
 use Rattle.bit_laws.proofs.Numbers.{number-lt, number-same, bit-number, number-bits}
 use Rattle.bit_laws.proofs.Signed.{signed-order}
+use Rattle.row_orders.proofs.Greatests.{PicksBy}
 use Rattle.row_orders.specs.declared.orders.Order.{Order}
 use Rattle.row_orders.specs.declared.orders.Order.TheVariants.{Minu, Min, Maxu, Max}
 use Rattle.row_orders.specs.Kinds.{start_of}
 use Rattle.row_orders.specs.Folds.{step_of}
-use Rattle.row_orders.proofs.Greatest.{PicksBy}
 
 abbrev pub flip : (start_bit bit : Bool) → Bool
 flip start_bit bit = cond start_bit (not bit) bit

@@ -1,19 +1,19 @@
 -- The elements of the rows that an order compares: which are active, and their keys, with the bits of the start flipped.
-use Rattle.std.proofs.Common.{◌≡◌, ◌≢◌, ℕ, suc, ◌+◌, ◌*◌, ◌/◌, ◌%◌, ◌^◌, ◌<◌, ◌≤◌, Bool, true, false, cond, refl, arith, ⊎_elim}
+use Rattle.std.proofs.Common.{◌≡◌, ◌≢◌, ℕ, suc, ◌+◌, ◌*◌, ◌/◌, ◌%◌, ◌^◌, ◌<◌, ◌≤◌, Bool, true, false, cond, arith, ⊎_elim}
 use Rattle.std.proofs.lemmas.Nat.{pow_pos, div-mul-add, mod-mul-add}
 use Rattle.std.proofs.Math.Nat.{mul-le-mul_right}
 use Rattle.bit_laws.specs.Numbers.{number, bit_of}
 use Rattle.bit_laws.proofs.Numbers.{number-lt}
 use Rattle.bit_rows.specs.Slices.{Slices}
 use Rattle.fold_laws.specs.Folds.{greatest}
+use Rattle.row_orders.proofs.Greatests.{greatest-lt}
 use Rattle.steer_net.specs.Moves.{per_row}
 use Rattle.steer_net.specs.Network.{bit_in, is_within}
-use Rattle.micro_ir.specs.WorkRows.{active_row, mask_row, scalar_row, free_row, left_row, right_row, IsOperandRow}
+use Rattle.micro_ir.specs.WorkRows.{active_row, free_row, IsOperandRow}
 use Rattle.row_views.specs.Views.{view}
 use Rattle.row_orders.specs.declared.sources.Source.{Source}
 use Rattle.row_orders.specs.Lists.{cand}
 use Rattle.row_orders.proofs.Flipped.{flip}
-use Rattle.row_orders.proofs.Greatest.{greatest-lt}
 use Rattle.row_orders.proofs.Leading.{at_most}
 
 module _ (w : ℕ) (src : ℕ → Source) (start : ℕ) (s : Slices) where

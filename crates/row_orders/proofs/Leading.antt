@@ -8,7 +8,7 @@ use Rattle.std.proofs.Math.Nat.{div-mul-le_self}
 use Rattle.bit_laws.specs.Numbers.{bit_of}
 use Rattle.fold_laws.specs.Folds.{greatest, any}
 use Rattle.fold_laws.proofs.Anys.{any_is, any_of}
-use Rattle.row_orders.proofs.Greatest.{at_most_greatest, greatest_is}
+use Rattle.row_orders.proofs.Greatests.{at_most_greatest, greatest_is}
 
 div_mono : (a b k : ℕ) → 0 < k → a ≤ b → a / k ≤ b / k
 div_mono a b k pos le = le-div (a / k) b k pos (let l : a / k * k ≤ a = div-mul-le_self a k in omega arith)

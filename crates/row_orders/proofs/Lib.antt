@@ -1,7 +1,7 @@
 -- The lists, as they are written, what they cost, and what they compute.
 pub mod Written
 pub mod Costs
-pub mod Greatest
+pub mod Greatests
 pub mod Leading
 pub mod Flipped
 pub mod Keys

@@ -1,5 +1,5 @@
 -- All bits, from the highest one down: the control number becomes the greatest key, with the bits of the start flipped.
-use Rattle.std.proofs.Common.{◌≡◌, ◌≢◌, ℕ, zero, suc, ◌+◌, ◌*◌, ◌/◌, ◌%◌, ◌<◌, ◌≤◌, Bool, true, false, cond, ◌&&◌, ◌||◌, not, eqb, leb, ◌++◌, refl, sym, ◌∙◌, ap, arith, ⊎_elim, inl, inr}
+use Rattle.std.proofs.Common.{◌≡◌, ◌≢◌, ℕ, zero, suc, ◌+◌, ◌*◌, ◌/◌, ◌<◌, ◌≤◌, Bool, true, false, cond, ◌&&◌, ◌||◌, not, eqb, leb, ◌++◌, refl, sym, ◌∙◌, ap, arith, ⊎_elim, inl, inr}
 use Rattle.std.proofs.lemmas.Bool.{cases_eq, le-leb, lt-leb, eq-eqb, ne_eqb}
 use Rattle.std.proofs.lemmas.Bool.Decides.{nat_tests}
 use Rattle.std.proofs.lemmas.Nat.{div-mul-add, mod-mul-add}
@@ -23,7 +23,7 @@ use Rattle.row_orders.proofs.Comparing.{compare-bits, compare-num, hits}
 use Rattle.row_orders.proofs.Flipped.{flip, flip_twice}
 use Rattle.row_orders.proofs.Keys.{act, key, key_bit, act_at, key_at, most, key_most, Stays}
 use Rattle.row_orders.proofs.Leading.{leads, leads_on, next_bit}
-use Rattle.row_orders.proofs.Staying.{stays_by, stay-num, stay-kept, stay-made}
+use Rattle.row_orders.proofs.Staying.{stay-num, stay-kept, stay-made}
 
 -- what the list asks of its rows
 pub record Ranked (w n : ℕ) (src : ℕ → Source) : Type 0 where

@@ -1,5 +1,5 @@
 -- What the list of an order computes: the fold of the elements of a span and of element 0 of a row.
-use Rattle.std.proofs.Common.{◌≡◌, ◌≢◌, ℕ, zero, suc, ◌+◌, ◌-◌, ◌*◌, ◌/◌, ◌%◌, ◌^◌, ◌<◌, ◌≤◌, Bool, true, false, cond, ◌&&◌, ◌||◌, not, ltb, leb, max, min, List, ◌++◌, refl, sym, ◌∙◌, ap, arith, ⊎_elim, inl}
+use Rattle.std.proofs.Common.{◌≡◌, ℕ, ◌+◌, ◌-◌, ◌*◌, ◌/◌, ◌%◌, ◌^◌, ◌<◌, ◌≤◌, Bool, true, false, cond, ◌&&◌, ◌||◌, not, leb, max, min, refl, sym, ◌∙◌, ap, arith, ⊎_elim, inl}
 use Rattle.std.proofs.lemmas.Bool.{cases_lt, lt-ltb, le-ltb, le-leb}
 use Rattle.std.proofs.lemmas.Nat.{div-mul-add, mod-mul-add, div-add-mod'}
 use Rattle.std.proofs.Math.Nat.{mod-lt, mul-le-mul_right}
@@ -9,6 +9,7 @@ use Rattle.bit_laws.proofs.Numbers.{number-lt, number-same, bit-number, number-b
 use Rattle.bit_rows.specs.Slices.{Slices}
 use Rattle.element_ops.specs.Elements.{element_in}
 use Rattle.fold_laws.specs.Folds.{greatest}
+use Rattle.row_orders.proofs.Greatests.{PicksBy, fold-below, fold-greatest, greatest-same, greatest-none, greatest-cat, greatest-first}
 use Rattle.steer_net.specs.Moves.{per_row}
 use Rattle.steer_net.specs.Network.{bit_in, is_within}
 use Rattle.micro_ir.specs.ControlNumbers.{with_num}
@@ -20,7 +21,7 @@ use Rattle.row_views.specs.Views.{view}
 use Rattle.row_views.proofs.Spread.{spread-num}
 use Rattle.row_views.proofs.Views.{view-in}
 use Rattle.row_counts.specs.declared.span.Span.{Span}
-use Rattle.row_counts.specs.Folds.{group_element, is_left_in, fold_of, Folded, Folds}
+use Rattle.row_counts.specs.Folds.{group_element, is_left_in, fold_of, Folds}
 use Rattle.row_counts.specs.Puts.{Puts}
 use Rattle.row_counts.specs.Spans.{IsSpan, SpanFits}
 use Rattle.row_counts.proofs.Rows.{row-element, spread-puts}
@@ -31,7 +32,6 @@ use Rattle.row_orders.specs.Kinds.{start_of, order_list}
 use Rattle.row_orders.specs.Lists.{sources}
 use Rattle.row_orders.proofs.Beginning.{order-done}
 use Rattle.row_orders.proofs.Flipped.{flip, flipped, flipped-twice, order-picks}
-use Rattle.row_orders.proofs.Greatest.{PicksBy, fold-below, fold-greatest, greatest-same, greatest-none, greatest-cat, greatest-first}
 use Rattle.row_orders.proofs.Keys.{act, key, act_at, key_at, most, Stays, operand-stays}
 use Rattle.row_orders.proofs.Ordering.{Ranked, Ordered}
 

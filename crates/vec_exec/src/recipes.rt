@@ -7,7 +7,7 @@ ghost use Rattle.gen_shift.specs.Lists.{goes_up};
 ghost use Rattle.vec_exec.specs.declared.recipes.Listed.{Listed};
 ghost use Rattle.rvv_decode.specs.declared.instruction.VOp.TheVariants.{Opi, Opm};
 ghost use Rattle.vec_exec.specs.Recipes as lists;
-ghost use Rattle.vec_exec.specs.Recipes.{recipe_for, list_of, counts_of, length_of, Computes, TellsClips, FitsRows};
+ghost use Rattle.vec_exec.specs.Recipes.{recipe_for, list_at, counts_of, length_of, Computes, TellsClips, FitsRows};
 
 use bit_laws::Width;
 use frame_meaning::{Order, Signs};
@@ -336,12 +336,11 @@ pub(crate) fn emit_list<W: Width>(list: Listed, at: &Place, buf: &mut MicroBuf)
     requires to { at.now.to < 32 }
     requires mode { at.now.mode ≤ 3 }
     requires room { length_of list W.BITS at.now.mode ≤ buf.old.spare }
-    ensures ops { buf.new.ops ≡ buf.old.ops ++ list_of list W.BITS at.now.mode at.now.a at.now.b at.now.addend at.now.to }
+    ensures ops { buf.new.ops ≡ buf.old.ops ++ list_at list W.BITS at.now }
     ensures spare { buf.new.spare + length_of list W.BITS at.now.mode ≡ buf.old.spare }
     ensures computes { Computes list W.BITS at.now.mode at.now.a at.now.b at.now.addend at.now.to }
     ensures tells { TellsClips list W.BITS at.now.mode at.now.a at.now.b at.now.addend at.now.to }
-    ensures cost { Measured (counts_of list W.BITS at.now.mode) (length_of list W.BITS at.now.mode)
-        (list_of list W.BITS at.now.mode at.now.a at.now.b at.now.addend at.now.to) }
+    ensures cost { Measured (counts_of list W.BITS at.now.mode) (length_of list W.BITS at.now.mode) (list_at list W.BITS at.now) }
 {
     match list {
         Listed::Bits(kind) => emit_logic::<W>(buf, at, kind),
