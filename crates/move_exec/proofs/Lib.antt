@@ -1,8 +1,13 @@
 -- The proofs of the plans.
+pub mod Valid
+pub mod Table
 pub mod Listed
+pub mod Quiet
 pub mod Meant
 pub mod Measured
+pub mod Sound
 pub mod Masks
+pub mod Prefixes
 pub mod Groups
 pub mod Valid
 pub mod Sized

@@ -1,11 +1,11 @@
--- The logic of masks: a truth of the bits of two masks.
-use Rattle.std.proofs.Common.{◌≡◌, ◌≢◌, ℕ, zero, suc, ◌+◌, ◌*◌, ◌/◌, ◌<◌, ◌≤◌, Bool, true, false, cond, ◌&&◌, ◌||◌, eqb, List, refl, sym, ◌∙◌, ap, arith, ◌⊎◌, inl, inr, ⊎_elim}
+-- Instructions that write the bits of a mask; and of these the logic of masks, a truth of the bits of two masks.
+use Rattle.std.proofs.Common.{◌≡◌, ◌≢◌, ℕ, zero, suc, ◌+◌, ◌*◌, ◌/◌, ◌<◌, ◌≤◌, Bool, true, false, cond, ◌&&◌, ◌||◌, eqb, ltb, List, refl, sym, ◌∙◌, ap, arith, ◌⊎◌, inl, inr, ⊎_elim}
 use Rattle.std.specs.Int.{from_bool}
 use Rattle.std.proofs.lemmas.Bool.{and_parts, ltb-true, or_left, or_right, or_cases, eq-eqb, eqb-true, cases_lt, false≢true}
 use Rattle.bit_laws.specs.Numbers.{number, low}
 use Rattle.bit_rows.specs.Slices.{Slices}
 use Rattle.steer_net.specs.Network.{bit_in}
-use Rattle.element_ops.specs.Elements.{Registers, bits_of}
+use Rattle.element_ops.specs.Elements.{Registers, bits_of, mask_bit_of}
 use Rattle.cam_chain.specs.Views.{registers_of}
 use Rattle.micro_ir.specs.declared.op.MicroOp.{MicroOp}
 use Rattle.micro_ir.specs.Kinds.{RealisesBits}
@@ -16,7 +16,7 @@ use Rattle.gen_logic.specs.declared.kinds.Logic.{Logic}
 use Rattle.gen_logic.specs.declared.kinds.Logic.TheVariants.{And, Or, Xor, Nand, Nor, Xnor, Andn, Orn, First, Second, Merge}
 use Rattle.gen_logic.specs.Recipes.{logic_ops}
 use Rattle.gen_logic.specs.Values.{truth_of, takes_mask}
-use Rattle.gen_logic.proofs.Tables.{logic-bits}
+use Rattle.gen_logic.proofs.Tables.{logic-bits, logic-measured}
 use Rattle.row_views.proofs.Views.{element-view, view-in}
 use Rattle.frame_laws.specs.Shapes.{Shape, Bounds, Bounded, first_of}
 use Rattle.frame_laws.specs.Bytes.{AreResults}
@@ -25,41 +25,41 @@ use Rattle.frame_laws.specs.Realising.{Realised}
 use Rattle.frame_laws.proofs.Ends.{usual_bounds_law}
 use Rattle.rvv_decode.specs.declared.instruction.VInstr.{VInstr}
 use Rattle.vtype_cfg.specs.declared.configuration.Cfg.{Cfg}
-use Rattle.move_exec.specs.Bodies.{place_at}
+use Rattle.rvv_meaning.specs.Elementwise.{Elementwise}
+use Rattle.move_exec.specs.declared.bodies.Body.TheVariants.{Bits}
+use Rattle.move_exec.specs.Bodies.{AllThere, place_at, body_list}
 use Rattle.move_exec.specs.Frames.{frame_shape, frame_bounds}
 use Rattle.move_exec.specs.Kinds.{mask_frame}
+use Rattle.move_exec.proofs.Sound.{Sound}
 
 -- the truth does not depend on the mask
 unmasked : (kind : Logic) → takes_mask kind ≡ false → (m x y : Bool) → truth_of kind m x y ≡ truth_of kind false x y
 unmasked Merge plain m x y = absurd (false≢true (sym plain))
 unmasked _ plain m x y = refl
 
-number-one : (f : ℕ → Bool) (t : Bool) → f 0 ≡ t → number 1 f ≡ low 1 (from_bool t)
+pub number-one : (f : ℕ → Bool) (t : Bool) → f 0 ≡ t → number 1 f ≡ low 1 (from_bool t)
 number-one f true is = rw is refl
 number-one f false is = rw is refl
 
 -- a bit of a row is an element of one bit
-here : (s : Slices) (k col r : ℕ) → k * 1 + 1 ≤ 32 → col < s.columns → element 1 k col s r 0 ≡ bit_in s r (0 + (col * 32 + k))
+pub here : (s : Slices) (k col r : ℕ) → k * 1 + 1 ≤ 32 → col < s.columns → element 1 k col s r 0 ≡ bit_in s r (col * 32 + k)
 here s k col r fits inside =
     let e = element-view 1 k col s (omega arith) refl fits inside in
-    let place : (col * 32 + k) * 1 + 0 ≡ 0 + (col * 32 + k) = omega arith in
+    let place : (col * 32 + k) * 1 + 0 ≡ col * 32 + k = omega arith in
     ap (λ (f : ℕ → ℕ → Bool). f r 0) e.0 ∙ view-in 1 s (col * 32 + k) r 0 (omega arith) ∙ ap (bit_in s r) place
 
-module _ (kind : Logic) (plain : takes_mask kind ≡ false) (i : VInstr) (c : Cfg) (vd : i.vd < 32) (vs2 : i.vs2 < 32) (vs1 : i.vs1 < 32) where
-  abbrev pub mask_result : Registers → ℕ → Bool → ℕ
-  mask_result v e m = from_bool (truth_of kind false (v i.vs2 e) (v i.vs1 e))
+pub and-true : (b : Bool) → b ≡ (b && true)
+and-true true = refl
+and-true false = refl
 
-  abbrev pub mask_shape : Shape
-  mask_shape = frame_shape (mask_frame i c) c false 8 0 mask_result
+-- ---- the frame of the bits of a mask
 
-  abbrev pub mask_bounds : Bounds
-  mask_bounds = frame_bounds (mask_frame i c)
+module _ (masked : Bool) (i : VInstr) (c : Cfg) (vd : i.vd < 32) (spares : masked ≡ true → 0 < i.vd) (result : Registers → ℕ → Bool → ℕ) where
+  abbrev pub bits_shape : Shape
+  bits_shape = frame_shape (mask_frame masked i c) c false 8 0 result
 
-  abbrev pub mask_list : (g : ℕ) → List MicroOp
-  mask_list g = logic_ops kind 1 (place_at (i.vs2 + g) (i.vs1 + g) (i.vd + g))
-
-  pub mask-framed : (columns : ℕ) → c.vlen ≡ 32 * columns → Framed mask_shape columns
-  mask-framed columns long = record {
+  pub bits-framed : (columns : ℕ) → c.vlen ≡ 32 * columns → Framed bits_shape columns
+  bits-framed columns long = record {
     width = omega arith;
     lanes = refl;
     vlen = long;
@@ -67,35 +67,48 @@ module _ (kind : Logic) (plain : takes_mask kind ≡ false) (i : VInstr) (c : Cf
     room = omega arith;
     scalar_width = omega arith;
     scalar_lanes = refl;
-    not_mask = λ t. absurd (false≢true t);
+    not_mask = λ t. spares (either masked t);
   }
+    where
+      either : (b : Bool) → (b || false) ≡ true → b ≡ true
+      either true t = refl
+      either false t = absurd (false≢true t)
 
-  abbrev pub mask_source : (g r : ℕ) → Bool
-  mask_source g r = eqb r i.vs2 || eqb r i.vs1
+  pub bits-bounded : Bounded bits_shape (frame_bounds (mask_frame masked i c))
+  bits-bounded = usual_bounds_law bits_shape refl (λ t. ltb-true c.vstart c.vl t)
 
-  small : (r : ℕ) → mask_source 0 r ≡ true → r < 32
-  small r h = ⊎_elim (λ (a : eqb r i.vs2 ≡ true). let e = eqb-true r i.vs2 a in omega arith) (λ (a : eqb r i.vs1 ≡ true). let e = eqb-true r i.vs1 a in omega arith) (or_cases (eqb r i.vs2) (eqb r i.vs1) h)
+  -- the one register reads two others, bit by bit
+  abbrev pub two_sources : (a b g r : ℕ) → Bool
+  two_sources a b g r = eqb r a || eqb r b
 
-  pub mask-legal : (columns : ℕ) → c.vlen ≡ 32 * columns → Legal mask_shape mask_source columns
-  mask-legal columns long = record {
-    framed = mask-framed columns long;
-    sources = λ g r l h. let z : g ≡ 0 = omega arith in (small r h, ⊎_elim (λ (a : r < i.vd). inl a) (λ (a : i.vd ≤ r). inr (omega arith)) (cases_lt r i.vd));
+  small : (a b : ℕ) → a < 32 → b < 32 → (g r : ℕ) → two_sources a b g r ≡ true → r < 32
+  small a b first second g r h =
+      ⊎_elim (λ (t : eqb r a ≡ true). let e = eqb-true r a t in omega arith) (λ (t : eqb r b ≡ true). let e = eqb-true r b t in omega arith) (or_cases (eqb r a) (eqb r b) h)
+
+  pub bits-legal : (columns : ℕ) → c.vlen ≡ 32 * columns → (a b : ℕ) → a < 32 → b < 32
+      → ((u v : Registers) (e : ℕ) (m : Bool) → e < c.vlen → ((k : ℕ) → k ≤ e → u a k ≡ v a k) → ((k : ℕ) → k ≤ e → u b k ≡ v b k) → result u e m ≡ result v e m)
+      → Legal bits_shape (two_sources a b) columns
+  bits-legal columns long a b first second reads = record {
+    framed = bits-framed columns long;
+    sources = λ g r l h. (small a b first second g r h, ⊎_elim (λ (t : r < i.vd). inl t) (λ (t : i.vd ≤ r). inr (omega arith)) (cases_lt r i.vd));
     reads_only = λ g u v p m l below less same.
-        let z : g ≡ 0 = omega arith in
         let one : c.vlen / 1 ≡ c.vlen = omega arith in
-        let zero_first : first_of mask_shape g ≡ 0 = rw z (omega arith) in
-        let inside : first_of mask_shape g + p < c.vlen = omega (arith, zero_first, below, one) in
-        rw (
-          same i.vs2 (first_of mask_shape g + p) (or_left (eqb i.vs2 i.vs2) _ (eq-eqb i.vs2 i.vs2 refl)) inside,
-          same i.vs1 (first_of mask_shape g + p) (or_right (eqb i.vs1 i.vs2) _ (eq-eqb i.vs1 i.vs1 refl)) inside,
-        ) refl;
+        let none : first_of bits_shape g ≡ 0 = let z : g ≡ 0 = omega arith in rw z (omega arith) in
+        let inside : first_of bits_shape g + p < c.vlen = omega (arith, none, below, one) in
+        reads u v (first_of bits_shape g + p) m inside
+        (λ k h. same a k (or_left (eqb a a) _ (eq-eqb a a refl)) (omega arith))
+        (λ k h. same b k (or_right (eqb b a) _ (eq-eqb b b refl)) (omega arith));
   }
 
-  pub mask-bounded : Bounded mask_shape mask_bounds
-  mask-bounded = usual_bounds_law mask_shape refl (λ t. ltb-true c.vstart c.vl t)
+module _ (kind : Logic) (plain : takes_mask kind ≡ false) (i : VInstr) (c : Cfg) (vd : i.vd < 32) (vs2 : i.vs2 < 32) (vs1 : i.vs1 < 32) where
+  abbrev mask_result : Registers → ℕ → Bool → ℕ
+  mask_result v e m = from_bool (truth_of kind false (v i.vs2 e) (v i.vs1 e))
+
+  never : false ≡ true → 0 < i.vd
+  never t = absurd (false≢true t)
 
   -- the list of the register
-  only-realised : Realised mask_shape mask_bounds 0 (mask_list 0)
+  only-realised : Realised (bits_shape false i c vd never mask_result) (frame_bounds (mask_frame false i c)) 0 (body_list (mask_frame false i c) (Bits kind i.vs2 i.vs1) c 0)
   unfolding Realised RealisesBits
   only-realised =
       let two : i.vs2 + 0 ≢ result_row = omega arith in
@@ -103,17 +116,50 @@ module _ (kind : Logic) (plain : takes_mask kind ≡ false) (i : VInstr) (c : Cf
       let to : i.vd + 0 < 32 = omega arith in
       let second : i.vs2 + 0 ≡ i.vs2 = omega arith in
       let third : i.vs1 + 0 ≡ i.vs1 = omega arith in
-      let bits : RealisesBits 1 (i.vd + 0) (λ n. truth_of kind (n mask_row) (n (i.vs2 + 0)) (n (i.vs1 + 0))) (mask_list 0) = logic-bits kind 1 (i.vs2 + 0) (i.vs1 + 0) (i.vd + 0) two one to in
+      let list : List MicroOp = logic_ops kind 1 (place_at (i.vs2 + 0) (i.vs1 + 0) (i.vd + 0)) in
+      let bits : RealisesBits 1 (i.vd + 0) (λ n. truth_of kind (n mask_row) (n (i.vs2 + 0)) (n (i.vs1 + 0))) list = logic-bits kind 1 (i.vs2 + 0) (i.vs1 + 0) (i.vd + 0) two one to in
       λ s vl splatted windowed k col fits inside.
       let y = bits s k col fits inside in
       let first : ℕ = col * 32 + k in
-      let zero_first : 0 * (c.vlen / 1) + first ≡ 0 + first = omega arith in
+      let zero_first : 0 * (c.vlen / 1) + first ≡ first = omega arith in
       record {
         active = λ on m mask.
-            number-one (element 1 k col (replay (mask_list 0) s) (i.vd + 0)) (truth_of kind false (bit_in s i.vs2 (0 * (c.vlen / 1) + first)) (bit_in s i.vs1 (0 * (c.vlen / 1) + first))) (y.bits 0 (omega arith) ∙ rw (on 0 (omega arith)) (unmasked kind plain _ _ _ ∙ rw (second, third, here s k col i.vs2 fits inside, here s k col i.vs1 fits inside, zero_first) refl));
+            number-one (element 1 k col (replay list s) (i.vd + 0)) (truth_of kind false (bit_in s i.vs2 (0 * (c.vlen / 1) + first)) (bit_in s i.vs1 (0 * (c.vlen / 1) + first)))
+            (y.bits 0 (omega arith) ∙ rw (on 0 (omega arith)) (unmasked kind plain _ _ _ ∙ rw (second, third, here s k col i.vs2 fits inside, here s k col i.vs1 fits inside, zero_first) refl));
         idle = λ off j h. y.bits j h ∙ rw (off j h) refl;
         kept = y.kept;
       }
 
-  pub mask-realised : AllRealised mask_shape mask_bounds mask_list
-  mask-realised g l = let z : g ≡ 0 = omega arith in rw z only-realised
+  -- what the instruction leaves
+  abbrev pub mask_elements : List (List ℕ) → Elementwise
+  mask_elements v = record {
+    vd = i.vd;
+    registers = 1;
+    width = 1;
+    from = c.vstart;
+    len = c.vl;
+    vl = c.vl;
+    masked = false;
+    value = λ w e. from_bool (truth_of kind false (mask_bit_of v i.vs2 e) (mask_bit_of v i.vs1 e));
+    clipped = λ w e. false;
+  }
+
+  pub masks-sound : Sound (mask_frame false i c) (Bits kind i.vs2 i.vs1) c mask_elements
+  unfolding bits_of
+  masks-sound =
+      let shape : Shape = bits_shape false i c vd never mask_result in
+      let there : (g : ℕ) → g < 1 → AllThere (mask_frame false i c) (Bits kind i.vs2 i.vs1) g = λ g l. (omega arith, (omega arith, omega arith)) in
+      record {
+        ready = record { width = omega arith; wide = tt; few = omega arith; there = there };
+        kind = inl (refl, refl);
+        result = mask_result;
+        source = two_sources false i c vd never mask_result i.vs2 i.vs1;
+        legal = λ columns long. bits-legal false i c vd never mask_result columns long i.vs2 i.vs1 vs2 vs1
+            (λ u v e m inside a b. let same : e ≤ e = omega arith in rw (a e same, b e same) refl);
+        bounded = bits-bounded false i c vd never mask_result;
+        realised = λ g l. let z : g ≡ 0 = omega arith in rw z only-realised;
+        range = λ g l. (logic-measured kind 1 (i.vs2 + g) (i.vs1 + g) (i.vd + g) (there g l).0).range (c.vlen / 32);
+        shape = λ v. ap (λ (t : Bool). record shape { tail = t }) (and-true (ltb c.vstart c.vl));
+        results = λ v e l. refl;
+        unclipped = λ v k. refl;
+      }

@@ -12,8 +12,7 @@ use Rattle.frame_meaning.specs.Realising.{RealisesInstruction, LeavesMeaning}
 use Rattle.frame_meaning.specs.Shapes.{shape_of}
 use Rattle.frame_meaning.proofs.Meaning.{meaning_law, mask_meaning_law}
 use Rattle.micro_ir.specs.declared.op.MicroOp.{MicroOp}
-use Rattle.micro_ir.specs.Replay.{replay, clips, all_keep_control}
-use Rattle.micro_ir.proofs.Lists.{clips-none}
+use Rattle.micro_ir.specs.Replay.{replay, clips}
 use Rattle.rvv_decode.specs.declared.instruction.VInstr.{VInstr}
 use Rattle.vtype_cfg.specs.declared.configuration.Cfg.{Cfg}
 use Rattle.vtype_cfg.specs.declared.configuration.Policy.TheVariants.{Keep}
@@ -24,6 +23,7 @@ use Rattle.rvv_meaning.specs.Whole.{Left, elements, Leaving, whole_for}
 use Rattle.move_exec.specs.declared.frames.Frame.{Frame}
 use Rattle.move_exec.specs.Frames.{frame_program, frame_shape, frame_bounds}
 use Rattle.move_exec.proofs.Listed.{listed}
+use Rattle.move_exec.proofs.Quiet.{IsQuiet}
 
 -- no element is clipped
 clips-no-element : (c : Cfg) (e : Elementwise) (v : List (List ℕ)) → ((k : ℕ) → e.clipped v k ≡ false) → (n : ℕ) → clips_below c e v n ≡ false
@@ -40,16 +40,16 @@ pub left-is : (i : VInstr) (c : Cfg) (x : ℕ) (leaving : Leaving) → operation
     → (v : List (List ℕ)) → left_of i c x v ≡ Some (leaving i (record c { policy = Keep }) x v)
 left-is i c x leaving none whole v = rw (none, whole) refl
 
--- A list realises an instruction where it leaves its registers and no control number.
+-- A list realises an instruction where it leaves its registers and sets no flag.
 pub realises-elements : (i : VInstr) (c : Cfg) (x : ℕ) (ops : List MicroOp) (e : List (List ℕ) → Elementwise)
-    → ((v : List (List ℕ)) → left_of i c x v ≡ Some (elements (e v))) → ((v : List (List ℕ)) (k : ℕ) → (e v).clipped v k ≡ false) → all_keep_control ops ≡ true
+    → ((v : List (List ℕ)) → left_of i c x v ≡ Some (elements (e v))) → ((v : List (List ℕ)) (k : ℕ) → (e v).clipped v k ≡ false) → IsQuiet ops
     → ((s : Slices) → c.vlen ≡ 32 * s.columns → registers_of (replay ops s) ≡ registers_after c (e (registers_of s)) (registers_of s))
     → RealisesInstruction i c x ops
 unfolding RealisesInstruction
-realises-elements i c x ops e left unclipped keep leaves s none long =
+realises-elements i c x ops e left unclipped quiet leaves s none long =
     let v = registers_of s in
     let both : LeavesMeaning c v (Some (elements (e v))) (replay ops s) (clips ops s) =
-    (leaves s long, clips-none ops s keep ∙ sym (clips-no-element c (e v) v (unclipped v) (e v).len)) in
+    (leaves s long, quiet s ∙ sym (clips-no-element c (e v) v (unclipped v) (e v).len)) in
     subst (λ (l : Option Left). LeavesMeaning c v l (replay ops s) (clips ops s)) (sym (left v)) both
 
 module _ (f : Frame) (c : Cfg) (takes : Bool) (w x : ℕ) (result : Registers → ℕ → Bool → ℕ) (body : ℕ → List MicroOp) (e : Elementwise) (source : ℕ → ℕ → Bool) (s : Slices) where

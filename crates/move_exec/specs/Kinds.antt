@@ -1,28 +1,24 @@
 -- The kinds of instruction, what each leaves, and what computes it.
 use Rattle.std.specs.Prelude.{◌≡◌, ℕ, ◌+◌, ◌*◌, ◌/◌, Bool, true, false, cond, not, ◌&&◌, ◌||◌, eqb, Option, None, Some}
 use lib.Dec.{ltb}
-use Rattle.cam_chain.specs.ChainValue.{no_counts}
-use Rattle.cam_chain.specs.declared.counts.Counts.{Counts}
-use Rattle.frame_laws.specs.Costs.{counts_times}
 use Rattle.gen_logic.specs.declared.kinds.Logic.{Logic}
 use Rattle.gen_logic.specs.declared.kinds.Logic.TheVariants.{And, Or, Xor, Nand, Nor, Xnor, Andn, Orn}
 use Rattle.gen_logic.specs.Values.{truth_of}
-use Rattle.micro_ir.specs.Measures.{counts}
-use Rattle.micro_ir.specs.Replay.{counts_and}
 use Rattle.rvv_decode.specs.declared.instruction.VInstr.{VInstr}
 use Rattle.rvv_decode.specs.declared.instruction.VOp.{VOp}
 use Rattle.rvv_decode.specs.declared.instruction.VOp.TheVariants.{Opi, Opm}
 use Rattle.rvv_decode.specs.declared.instruction.OpmOp.{OpmOp}
-use Rattle.rvv_decode.specs.declared.instruction.OpmOp.TheVariants.{Vmand, Vmor, Vmxor, Vmnand, Vmnor, Vmxnor, Vmandn, Vmorn, Vid}
+use Rattle.rvv_decode.specs.declared.instruction.OpmOp.TheVariants.{Vmand, Vmor, Vmxor, Vmnand, Vmnor, Vmxnor, Vmandn, Vmorn, Vmsbf, Vmsif, Vmsof, Vid}
+use Rattle.steer_net.specs.declared.reach.Reach.TheVariants.{Before, Upto, At}
 use Rattle.vtype_cfg.specs.declared.configuration.Cfg.{Cfg}
-use Rattle.vtype_cfg.specs.Classes.{Class, mask_logic as mask_logic_class, index, group as group_place, count_at}
+use Rattle.vtype_cfg.specs.Classes.{Class, mask_logic as mask_logic_class, mask_first, index, group as group_place, count_at}
 use Rattle.rvv_meaning.specs.Elementwise.{is_ones}
-use Rattle.rvv_meaning.specs.Whole.{Leaving, mask_logic, element_numbers}
+use Rattle.rvv_meaning.specs.Whole.{Leaving, mask_logic, before_first, up_to_first, only_first, element_numbers}
 use Rattle.move_exec.specs.declared.bodies.Body.{Body}
-use Rattle.move_exec.specs.declared.bodies.Body.TheVariants.{Bits, Numbers as Counted}
+use Rattle.move_exec.specs.declared.bodies.Body.TheVariants.{Bits, Marked, Numbers as Counted}
 use Rattle.move_exec.specs.declared.frames.Frame.{Frame}
 use Rattle.move_exec.specs.declared.kinds.Kind.{Kind}
-use Rattle.move_exec.specs.declared.kinds.Kind.TheVariants.{Masks, Numbers}
+use Rattle.move_exec.specs.declared.kinds.Kind.TheVariants.{Masks, Marks, Numbers}
 
 -- the kind of an instruction, where it has one
 abbrev pub opm_kind : OpmOp → Option Kind
@@ -34,6 +30,9 @@ opm_kind Vmnor = Some (Masks Nor)
 opm_kind Vmxnor = Some (Masks Xnor)
 opm_kind Vmandn = Some (Masks Andn)
 opm_kind Vmorn = Some (Masks Orn)
+opm_kind Vmsbf = Some (Marks Before)
+opm_kind Vmsif = Some (Marks Upto)
+opm_kind Vmsof = Some (Marks At)
 opm_kind Vid = Some Numbers
 opm_kind _ = None
 
@@ -44,11 +43,15 @@ kind_for _ = None
 -- what an instruction of the kind leaves
 abbrev pub leaving_of : Kind → Leaving
 leaving_of (Masks kind) i c x v = mask_logic i c x v (truth_of kind false)
+leaving_of (Marks Before) i c x v = before_first i c x v
+leaving_of (Marks Upto) i c x v = up_to_first i c x v
+leaving_of (Marks At) i c x v = only_first i c x v
 leaving_of Numbers i c x v = element_numbers i c x v
 
 -- its class
 abbrev pub class_for : Kind → Class
 class_for (Masks kind) = mask_logic_class
+class_for (Marks how) = mask_first
 class_for Numbers = index
 
 -- how many registers a group takes
@@ -56,12 +59,12 @@ abbrev pub group_registers : Cfg → ℕ
 group_registers c = count_at c.vtype (group_place c.vtype.sew)
 
 -- the bits of the mask in vd; the elements of the group from vd on
-abbrev pub mask_frame : VInstr → Cfg → Frame
-mask_frame i c = record {
+abbrev pub mask_frame : (masked : Bool) → VInstr → Cfg → Frame
+mask_frame masked i c = record {
   vd = i.vd;
   registers = 1;
   width = 1;
-  masked = false;
+  masked = masked;
   ones = is_ones c.policy;
   tail = ltb c.vstart c.vl;
   from = c.vstart;
@@ -84,14 +87,11 @@ group_frame i c = record {
 
 -- the registers that an instruction of the kind writes, and what computes them
 abbrev pub frame_for : Kind → VInstr → Cfg → Frame
-frame_for (Masks kind) i c = mask_frame i c
+frame_for (Masks kind) i c = mask_frame false i c
+frame_for (Marks how) i c = mask_frame (not i.vm) i c
 frame_for Numbers i c = group_frame i c
 
 abbrev pub body_for : Kind → VInstr → Body
 body_for (Masks kind) i = Bits kind i.vs2 i.vs1
+body_for (Marks how) i = Marked i.vs2 how
 body_for Numbers i = Counted
-
--- how many registers it writes
-abbrev pub registers_of_kind : Kind → Cfg → ℕ
-registers_of_kind (Masks kind) c = 1
-registers_of_kind Numbers c = group_registers c

@@ -3,10 +3,12 @@ ghost use Rattle.std.specs.Prelude.{◌≡◌, ◌+◌, ◌*◌, ◌/◌, ◌<�
 ghost use Rattle.move_exec.specs.Bodies.{IsOfWidth, AllThere, place_at, body_at, body_length};
 
 use crate::frames::Frame;
+use crate::marks::emit_marked;
 use bit_laws::Width;
 use gen_logic::{Logic, emit_logic};
 use gen_perm::{emit_index, emit_pick, emit_slide};
 use micro_ir::{MicroBuf, MicroOp, Place, RESULT_ROW, SCALAR_ROW, emit_commit};
+use steer_net::Reach;
 
 /// What computes the registers of an instruction.
 #[derive(Clone, Copy, Debug, PartialEq, Eq)]
@@ -16,6 +18,11 @@ pub enum Body {
         kind: Logic,
         a: u8,
         b: u8,
+    },
+    /// The places that stand so to the first one of a mask.
+    Marked {
+        source: u8,
+        how: Reach,
     },
     /// The numbers of the elements.
     Numbers,
@@ -64,6 +71,7 @@ pub fn emit_body<W: Width>(frame: &Frame, body: Body, first: u32, register: u8, 
         Body::Bits { kind, a, b } => {
             emit_logic::<W>(buf, &at_rows(a + register, b + register, to), kind);
         }
+        Body::Marked { source, how } => emit_marked::<W>(source + register, how, to, buf),
         Body::Numbers => emit_index::<W>(
             buf,
             &at_rows(to, to, to),

@@ -1,12 +1,16 @@
 // The kinds of instruction, and what computes them.
-ghost use Rattle.std.specs.Prelude.{◌≡◌, ℕ, ◌+◌, ◌<◌, ◌≤◌, Some, IsTrue};
+ghost use Rattle.std.specs.Prelude.{◌≡◌, ℕ, ◌+◌, ◌<◌, ◌≤◌, Some, IsTrue, true};
+ghost use Rattle.vtype_cfg.specs.Legality.{is_legal};
+ghost use Rattle.vtype_cfg.specs.Settings.{is_valid};
 ghost use Rattle.legal_groups.specs.Facts.{IsElementWidth, registers_for};
 ghost use Rattle.rvv_meaning.specs.Elementwise.{is_ones};
-ghost use Rattle.move_exec.specs.Kinds.{kind_for, mask_frame, group_frame, group_registers};
+ghost use Rattle.move_exec.specs.Kinds.{kind_for, mask_frame, group_frame, group_registers, frame_for, body_for};
 
+use crate::bodies::Body;
 use crate::frames::Frame;
 use gen_logic::Logic;
 use rvv_decode::{OpmOp, VInstr, VOp};
+use steer_net::Reach;
 use vtype_cfg::{Cfg, Policy};
 
 // LMUL counts eighths of a register.
@@ -17,6 +21,8 @@ const EIGHTHS: u8 = 8;
 pub enum Kind {
     /// A truth of the bits of two masks (vector extension 1.0, section 15.1).
     Masks(Logic),
+    /// The places that stand so to the first one of a mask (sections 15.4 to 15.6).
+    Marks(Reach),
     /// The numbers of elements (section 15.9).
     Numbers,
 }
@@ -36,6 +42,9 @@ pub fn kind_of(op: VOp) -> Option<Kind>
             OpmOp::Vmxnor => Some(Kind::Masks(Logic::Xnor)),
             OpmOp::Vmandn => Some(Kind::Masks(Logic::Andn)),
             OpmOp::Vmorn => Some(Kind::Masks(Logic::Orn)),
+            OpmOp::Vmsbf => Some(Kind::Marks(Reach::Before)),
+            OpmOp::Vmsif => Some(Kind::Marks(Reach::Upto)),
+            OpmOp::Vmsof => Some(Kind::Marks(Reach::At)),
             OpmOp::Vid => Some(Kind::Numbers),
             _ => None,
         },
@@ -60,15 +69,15 @@ fn registers(cfg: &Cfg) -> u8
     (eighths / u32::from(EIGHTHS)).max(1) as u8
 }
 
-/// The bits of the mask in vd.
-pub fn mask_frame(i: &VInstr, cfg: &Cfg) -> Frame
-    ensures { result ≡ mask_frame i.now cfg.now }
+// The bits of the mask in vd.
+fn mask_frame(masked: bool, i: &VInstr, cfg: &Cfg) -> Frame
+    ensures { result ≡ mask_frame masked i.now cfg.now }
 {
     Frame {
         vd: i.vd,
         registers: 1,
         width: 1,
-        masked: false,
+        masked,
         ones: makes_ones(cfg),
         tail: cfg.vstart < cfg.vl,
         from: cfg.vstart,
@@ -77,8 +86,8 @@ pub fn mask_frame(i: &VInstr, cfg: &Cfg) -> Frame
     }
 }
 
-/// The elements of the group from vd on.
-pub fn group_frame(i: &VInstr, cfg: &Cfg) -> Frame
+// The elements of the group from vd on.
+fn group_frame(i: &VInstr, cfg: &Cfg) -> Frame
     requires sew { 0 < cfg.now.vtype.sew }
     requires few { group_registers cfg.now ≤ 8 }
     ensures { result ≡ group_frame i.now cfg.now }
@@ -93,5 +102,34 @@ pub fn group_frame(i: &VInstr, cfg: &Cfg) -> Frame
         from: cfg.vstart,
         len: cfg.vl,
         until: cfg.vl,
+    }
+}
+
+/// The registers that an instruction of the kind writes.
+pub fn frame_of(kind: Kind, i: &VInstr, cfg: &Cfg) -> Frame
+    requires kind { kind_for i.now.op ≡ Some kind }
+    requires legal { is_legal i.now cfg.now.vtype cfg.now.vstart ≡ true }
+    requires valid { IsTrue (is_valid cfg.now) }
+    ensures { result ≡ frame_for kind i.now cfg.now }
+{
+    match kind {
+        Kind::Masks(_) => mask_frame(false, i, cfg),
+        Kind::Marks(_) => mask_frame(!i.vm, i, cfg),
+        Kind::Numbers => group_frame(i, cfg),
+    }
+}
+
+/// What computes them.
+pub const fn body_of(kind: Kind, i: &VInstr) -> Body
+    ensures { result ≡ body_for kind i.now }
+{
+    match kind {
+        Kind::Masks(kind) => Body::Bits {
+            kind,
+            a: i.vs2,
+            b: i.vs1,
+        },
+        Kind::Marks(how) => Body::Marked { source: i.vs2, how },
+        Kind::Numbers => Body::Numbers,
     }
 }

@@ -1,10 +1,11 @@
 //! Plans of the vector instructions that read whole groups or whole masks and write elements: the
-//! logic of masks and the numbers of elements.
+//! logic of masks, the places that stand to the first one of a mask, and the numbers of elements.
 #![tactic(auto)]
 
 mod bodies;
 mod frames;
 mod kinds;
+mod marks;
 mod moves;
 mod planning;
 

@@ -13,7 +13,7 @@ use Rattle.rvv_decode.specs.declared.instruction.Form.{Form}
 use Rattle.rvv_decode.specs.declared.instruction.Form.TheVariants.{V, X, I}
 use Rattle.rvv_decode.specs.declared.instruction.OpiOp.{OpiOp}
 use Rattle.rvv_decode.specs.declared.instruction.OpmOp.{OpmOp}
-use Rattle.rvv_decode.specs.declared.instruction.OpmOp.TheVariants.{VmvXS, Vcpop, Vfirst, Vid, Vmand, Vmnand, Vmandn, Vmor, Vmnor, Vmorn, Vmxor, Vmxnor}
+use Rattle.rvv_decode.specs.declared.instruction.OpmOp.TheVariants.{VmvXS, Vcpop, Vfirst, Vid, Vmand, Vmnand, Vmandn, Vmor, Vmnor, Vmorn, Vmxor, Vmxnor, Vmsbf, Vmsif, Vmsof}
 use Rattle.vtype_cfg.specs.declared.configuration.Cfg.{Cfg}
 use Rattle.vtype_cfg.specs.Classes.{group as group_place, count_at}
 use Rattle.vtype_cfg.specs.Settings.{vlmax}
@@ -259,4 +259,7 @@ whole_for (Opm Vmnor) = Some (λ i c x v. mask_logic i c x v (λ a b. not (a || 
 whole_for (Opm Vmorn) = Some (λ i c x v. mask_logic i c x v (λ a b. a || not b))
 whole_for (Opm Vmxor) = Some (λ i c x v. mask_logic i c x v (λ a b. cond a (not b) b))
 whole_for (Opm Vmxnor) = Some (λ i c x v. mask_logic i c x v (λ a b. not (cond a (not b) b)))
+whole_for (Opm Vmsbf) = Some before_first
+whole_for (Opm Vmsif) = Some up_to_first
+whole_for (Opm Vmsof) = Some only_first
 whole_for _ = None
