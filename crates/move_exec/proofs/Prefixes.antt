@@ -124,7 +124,7 @@ module _ (how : Reach) (i : VInstr) (c : Cfg) (start : c.vstart ≡ 0) (long : c
     clipped = λ w e. false;
   }
 
-  pub marks-sound : Sound (mask_frame (not i.vm) i c) (Marked i.vs2 how) c marks_elements
+  pub marks-sound : Sound (mask_frame (not i.vm) i c) (Marked i.vs2 how) c false 8 0 marks_elements
   unfolding bits_of
   marks-sound =
       let there : (g : ℕ) → g < 1 → AllThere (mask_frame (not i.vm) i c) (Marked i.vs2 how) g = λ g l. (omega arith, omega arith) in
@@ -139,7 +139,7 @@ module _ (how : Reach) (i : VInstr) (c : Cfg) (start : c.vstart ≡ 0) (long : c
         realised = λ g l. let z : g ≡ 0 = omega arith in rw z only-realised;
         range = λ g l. (prefix-measured (i.vs2 + g) how (i.vd + g) (there g l).0).range (c.vlen / 32);
         shape = λ v. ap (λ (t : Bool). record marks_shape { tail = t }) (and-true (ltb c.vstart c.vl));
-        results = λ v e l. refl;
+        results = λ s long e l. refl;
         unclipped = λ v k. refl;
       }
 

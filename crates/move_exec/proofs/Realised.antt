@@ -58,7 +58,7 @@ unfolding move_program move_cost
 planned (Masks kind) i c x is fields valid legal =
     let k = of-kind i.op (Masks kind) is in
     let sound = masks-sound kind k.plain i c fields.vd fields.vs2 fields.vs1 in
-    record { ready = sound.ready; fine = sound-fine i c x _ _ _ sound valid (λ v. left-is i c x (leaving_of (Masks kind)) k.none k.whole v) }
+    record { ready = sound.ready; fine = sound-fine i c x _ _ false 8 0 _ sound valid (λ v. left-is i c x (leaving_of (Masks kind)) k.none k.whole v) }
 planned (Marks how) i c x is fields valid legal =
     let k = of-kind i.op (Marks how) is in
     let m = marking how i c is valid legal in
@@ -66,9 +66,9 @@ planned (Marks how) i c x is fields valid legal =
     let sound = marks-sound how i c m.start long fields.vd fields.vs2 m.spares in
     record {
       ready = sound.ready;
-      fine = sound-fine i c x _ _ _ sound valid (λ v. left-is i c x (leaving_of (Marks how)) k.none k.whole v ∙ ap Some (marks-leave how i c x m.start long fields.vd fields.vs2 m.spares v));
+      fine = sound-fine i c x _ _ false 8 0 _ sound valid (λ v. left-is i c x (leaving_of (Marks how)) k.none k.whole v ∙ ap Some (marks-leave how i c x m.start long fields.vd fields.vs2 m.spares v));
     }
 planned Numbers i c x is fields valid legal =
     let k = of-kind i.op Numbers is in
     let sound = numbers-sound index i c (group-written i c is valid legal) in
-    record { ready = sound.ready; fine = sound-fine i c x _ _ _ sound valid (λ v. left-is i c x (leaving_of Numbers) k.none k.whole v) }
+    record { ready = sound.ready; fine = sound-fine i c x _ _ false 8 0 _ sound valid (λ v. left-is i c x (leaving_of Numbers) k.none k.whole v) }

@@ -108,12 +108,11 @@ module _ (i : VInstr) (c : Cfg) (x : ℕ) (g : Grouped i c) where
   abbrev most : ℕ
   most = vlmax c.vtype c.vlen
 
-  some-bits : (columns : ℕ) → c.vlen ≡ 32 * columns → 0 < columns → 0 < c.vlen
-  some-bits columns long some = omega arith
-
   -- an element of vs2, in registers that are bits and in those that are bytes
-  pub element-here : (s : Slices) (e : ℕ) → c.vlen ≡ 32 * s.columns → 0 < s.columns → element_in c.vlen (bits_of (registers_of s)) i.vs2 w e ≡ element_of (c.vlen / 8) (registers_of s) i.vs2 w e
-  element-here s e long some = same-here (sized_shape (group_frame i c) c false x (λ v e m. 0)) (group i.vs2) s e tt long some (width-of w g.sits.wide).whole
+  pub element-here : (s : Slices) (e : ℕ) → c.vlen ≡ 32 * s.columns → element_in c.vlen (bits_of (registers_of s)) i.vs2 w e ≡ element_of (c.vlen / 8) (registers_of s) i.vs2 w e
+  element-here s e long =
+      let some : 0 < s.columns = (let l = g.some in omega arith) in
+      same-here (sized_shape (group_frame i c) c false x (λ v e m. 0)) (group i.vs2) s e tt long some (width-of w g.sits.wide).whole
 
   -- ---- slides
 
@@ -133,16 +132,16 @@ module _ (i : VInstr) (c : Cfg) (x : ℕ) (g : Grouped i c) where
   slid-unwritten true fits q r below read = apart-unwritten i.vd i.vs2 n q r g.vs2 fits below read
   slid-unwritten false fits q r below read = ahead-unwritten i.vd i.vs2 n q r g.vs2 fits below read
 
-  slid-reads : (up : Bool) (by : ℕ) → 0 < c.vlen → (q : ℕ) (u v : Registers) (p : ℕ) → SameAt (slid_source up q) c.vlen u v
+  slid-reads : (up : Bool) (by : ℕ) → (q : ℕ) (u v : Registers) (p : ℕ) → SameAt (slid_source up q) c.vlen u v
       → slide_result c.vlen w i.vs2 up by most u (q * (c.vlen / w) + p) ≡ slide_result c.vlen w i.vs2 up by most v (q * (c.vlen / w) + p)
-  slid-reads true by some q u v p same = up-agrees c.vlen w i.vs2 n most some g.whole g.most by (q * (c.vlen / w) + p) u v same
-  slid-reads false by some q u v p same = down-agrees c.vlen w i.vs2 n most some g.whole g.most q by p u v same
+  slid-reads true by q u v p same = up-agrees c.vlen w i.vs2 n most g.some g.whole g.most by (q * (c.vlen / w) + p) u v same
+  slid-reads false by q u v p same = down-agrees c.vlen w i.vs2 n most g.some g.whole g.most q by p u v same
 
-  pub slid-legal : (takes up : Bool) (by columns : ℕ) → FitsDirection up → 0 < columns → c.vlen ≡ 32 * columns → Legal (sized_shape (group_frame i c) c takes x (slid_result up by)) (slid_source up) columns
-  slid-legal takes up by columns fits some long = record {
+  pub slid-legal : (takes up : Bool) (by columns : ℕ) → FitsDirection up → c.vlen ≡ 32 * columns → Legal (sized_shape (group_frame i c) c takes x (slid_result up by)) (slid_source up) columns
+  slid-legal takes up by columns fits long = record {
     framed = sized-framed (group_frame i c) c takes x columns (slid_result up by) g.sits long;
     sources = λ q r below read. slid-unwritten up fits q r below read;
-    reads_only = λ q u v p m below inside less same. slid-reads up by (some-bits columns long some) q u v p same;
+    reads_only = λ q u v p m below inside less same. slid-reads up by q u v p same;
   }
 
   pub slid-realised : (takes up : Bool) (by : ℕ) → AllRealised (sized_shape (group_frame i c) c takes x (slid_result up by)) (frame_bounds (group_frame i c)) (body_list (group_frame i c) (Slid i.vs2 up by most) c)
@@ -164,15 +163,15 @@ module _ (i : VInstr) (c : Cfg) (x : ℕ) (g : Grouped i c) where
   pub offset-sits : (by : ℕ) → Sits (offset_frame i c by)
   offset-sits by = record { wide = g.sits.wide; few = g.sits.few; room = g.sits.room; spares = g.sits.spares }
 
-  pub up-legal : (by columns : ℕ) → IsApart i.vd i.vs2 n → 0 < columns → c.vlen ≡ 32 * columns → Legal (sized_shape (offset_frame i c by) c false x (up_result by)) (slid_source true) columns
-  up-legal by columns apart some long = record {
+  pub up-legal : (by columns : ℕ) → IsApart i.vd i.vs2 n → c.vlen ≡ 32 * columns → Legal (sized_shape (offset_frame i c by) c false x (up_result by)) (slid_source true) columns
+  up-legal by columns apart long = record {
     framed = sized-framed (offset_frame i c by) c false x columns (up_result by) (offset-sits by) long;
     sources = λ q r below read. slid-unwritten true apart q r below read;
     reads_only = λ q u v p m below inside less same.
         let vl : c.vl ≤ most = g.vl in
         let e : ℕ = q * (c.vlen / w) + p in
         let l : e < c.vl = less in
-        element-agrees c.vlen w i.vs2 n most (some-bits columns long some) g.whole g.most 0 (e - by) u v (omega arith) (omega arith) same;
+        element-agrees c.vlen w i.vs2 n most g.some g.whole g.most 0 (e - by) u v (omega arith) (omega arith) same;
   }
 
   -- where an element is active, it has one so many places below
@@ -194,11 +193,11 @@ module _ (i : VInstr) (c : Cfg) (x : ℕ) (g : Grouped i c) where
   abbrev pub picked_result : (index : ℕ) → Registers → ℕ → Bool → ℕ
   picked_result index v e m = pick_result c.vlen w i.vs2 index most v
 
-  pub picked-legal : (index columns : ℕ) → IsApart i.vd i.vs2 n → 0 < columns → c.vlen ≡ 32 * columns → Legal (sized_shape (group_frame i c) c false x (picked_result index)) (slid_source true) columns
-  picked-legal index columns apart some long = record {
+  pub picked-legal : (index columns : ℕ) → IsApart i.vd i.vs2 n → c.vlen ≡ 32 * columns → Legal (sized_shape (group_frame i c) c false x (picked_result index)) (slid_source true) columns
+  picked-legal index columns apart long = record {
     framed = sized-framed (group_frame i c) c false x columns (picked_result index) g.sits long;
     sources = λ q r below read. slid-unwritten true apart q r below read;
-    reads_only = λ q u v p m below inside less same. pick-agrees c.vlen w i.vs2 n most (some-bits columns long some) g.whole g.most index u v same;
+    reads_only = λ q u v p m below inside less same. pick-agrees c.vlen w i.vs2 n most g.some g.whole g.most index u v same;
   }
 
   pub picked-realised : (index : ℕ) → AllRealised (sized_shape (group_frame i c) c false x (picked_result index)) (frame_bounds (group_frame i c)) (body_list (group_frame i c) (Picked i.vs2 index most) c)

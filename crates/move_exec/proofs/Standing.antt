@@ -2,19 +2,20 @@
 use Rattle.std.proofs.Common.{◌≡◌, ℕ, zero, suc, ◌+◌, ◌*◌, ◌/◌, ◌%◌, ◌<◌, ◌≤◌, Bool, true, false, not, refl, sym, ◌∙◌, ap, arith, ◌⊎◌, inl, inr, ⊎_elim}
 use Rattle.std.specs.Prelude.{IsTrue}
 use Rattle.std.proofs.lemmas.Bool.{and_parts, leb-true, false≢true}
+use Rattle.std.proofs.lemmas.Nat.{le-div}
 use Rattle.frame_laws.proofs.Classes.Operands.{whole-register}
 use Rattle.frame_meaning.proofs.OperandWidths.{width-of}
 use Rattle.legal_groups.specs.Rules.{Lies, AreApart, Obeys, aligned_to}
 use Rattle.legal_groups.proofs.Overlaps.{same_or_apart}
 use Rattle.legal_groups.proofs.Rules.{legal_law}
-use Rattle.legal_groups.proofs.Widths.{vlmax-held_at}
+use Rattle.legal_groups.proofs.Widths.{at_width, vlmax-held_at}
 use Rattle.rvv_decode.specs.declared.instruction.VInstr.{VInstr}
 use Rattle.vtype_cfg.specs.declared.configuration.Cfg.{Cfg}
 use Rattle.vtype_cfg.specs.declared.vtype.Vtype.{Vtype}
 use Rattle.vtype_cfg.specs.Classes.{Class, Place, group as group_place, whole, nowhere, class_of, row_of, count_at, overlap_of, may_write_mask, needs_no_setting}
 use Rattle.vtype_cfg.specs.Legality.{is_legal}
 use Rattle.vtype_cfg.specs.Settings.{is_valid, is_legal_vlen, vlmax}
-use Rattle.vtype_cfg.proofs.Lengths.{vlen_words}
+use Rattle.vtype_cfg.proofs.Lengths.{vlen_from, vlen_words}
 use Rattle.move_exec.specs.Kinds.{group_registers, group_frame}
 use Rattle.move_exec.proofs.Sized.{Sits}
 use Rattle.move_exec.proofs.Sources.{IsApart}
@@ -30,6 +31,16 @@ whole-elements vlen w legal is =
     let words : 32 * (vlen / 32) ≡ vlen = vlen_words vlen legal in
     let a = width-of w is in
     whole-register w vlen (vlen / 32) (let least = a.least in omega arith) a.lanes (sym words)
+
+-- and one at least
+pub some-elements : (vlen w : ℕ) → IsTrue (is_legal_vlen vlen) → (w ≡ 8) ⊎ ((w ≡ 16) ⊎ (w ≡ 32)) → 0 < vlen / w
+some-elements vlen w legal is =
+    let least : 32 ≤ vlen = vlen_from vlen legal in
+    let a = width-of w is in
+    let wide : 8 ≤ w = a.least in
+    let most : w ≤ 32 = at_width (λ (u : ℕ). u ≤ 32) (omega arith) (omega arith) (omega arith) w is in
+    let l : 1 ≤ vlen / w = le-div 1 vlen w (omega arith) (omega arith) in
+    l
 
 pub masked-off : (vm : Bool) → not vm ≡ true → vm ≡ false
 masked-off true t = absurd (false≢true t)
@@ -49,6 +60,8 @@ pub record Grouped (i : VInstr) (c : Cfg) : Type 0 where
   pub most : vlmax c.vtype c.vlen ≤ group_registers c * (c.vlen / c.vtype.sew)
   pub vl : c.vl ≤ vlmax c.vtype c.vlen
   pub whole : c.vlen / c.vtype.sew * c.vtype.sew ≡ c.vlen
+  pub some : 0 < c.vlen
+  pub per : 0 < c.vlen / c.vtype.sew
 
 pub grouped : (class : Class) (i : VInstr) (c : Cfg) → Obeys class i c.vtype c.vstart → IsTrue (is_valid c)
     → (row_of class c.vtype.sew i).vd ≡ group_place c.vtype.sew → (row_of class c.vtype.sew i).vs2 ≡ group_place c.vtype.sew → needs_no_setting class ≡ false → may_write_mask class ≡ false → Grouped i c
@@ -73,6 +86,8 @@ grouped class i c o valid vd vs2 needs never =
       most = rw count held;
       vl = valid-most c valid;
       whole = long;
+      some = (let least : 32 ≤ c.vlen = vlen_from c.vlen (valid-length c valid) in omega arith);
+      per = some-elements c.vlen vt.sew (valid-length c valid) s.1;
     }
 
 -- where its class forbids that they share registers
