@@ -1,13 +1,12 @@
 -- What the emission of a program needs, and what it has written.
-use Rattle.std.proofs.Common.{◌≡◌, ◌≢◌, ℕ, ◌+◌, ◌*◌, ◌<◌, ◌≤◌, Bool, true, false, cond, eqb, List, refl, arith}
-use Rattle.std.proofs.lemmas.Bool.{eq-eqb, ne_eqb}
+use Rattle.std.proofs.Common.{◌≡◌, ◌≢◌, ℕ, ◌*◌, ◌≤◌, Bool, true, false, cond, refl, arith}
+use Rattle.std.proofs.lemmas.Bool.{ne_eqb}
 use Rattle.std.proofs.lemmas.Nat.{mul-le}
 use Rattle.gen_logic.proofs.Tables.{length-few}
-use Rattle.micro_ir.specs.declared.op.MicroOp.{MicroOp}
 use Rattle.move_exec.specs.declared.bodies.Body.{Body}
 use Rattle.move_exec.specs.declared.bodies.Body.TheVariants.{Bits, Marked, Numbers, Slid, Picked, Scalar}
 use Rattle.move_exec.specs.declared.frames.Frame.{Frame}
-use Rattle.move_exec.specs.Bodies.{Ready, IsOfWidth, body_length, emitted_at}
+use Rattle.move_exec.specs.Bodies.{body_length, emitted_at}
 use Rattle.move_exec.specs.Frames.{register_length}
 use Rattle.move_exec.specs.Programs.{program_length}
 

@@ -1,9 +1,8 @@
 -- Instructions that write a group of elements of SEW bits.
-use Rattle.std.proofs.Common.{◌≡◌, ℕ, ◌+◌, ◌*◌, ◌/◌, ◌<◌, ◌≤◌, Bool, true, false, not, ◌||◌, ◌&&◌, eqb, ltb, List, refl, sym, ◌∙◌, ap, arith, inl, inr}
+use Rattle.std.proofs.Common.{◌≡◌, ℕ, ◌+◌, ◌*◌, ◌/◌, ◌<◌, ◌≤◌, Bool, true, false, not, ◌||◌, ◌&&◌, eqb, ltb, refl, sym, ap, arith, inl, inr}
 use Rattle.std.proofs.lemmas.Bool.{and_parts, ltb-true, false≢true}
-use Rattle.bit_rows.specs.Slices.{Slices}
 use Rattle.element_ops.specs.Elements.{Registers}
-use Rattle.frame_laws.specs.Shapes.{Shape, Bounded}
+use Rattle.frame_laws.specs.Shapes.{Bounded}
 use Rattle.frame_laws.specs.Laws.{Framed, Legal, AllRealised}
 use Rattle.frame_laws.proofs.Ends.{usual_bounds_law}
 use Rattle.frame_meaning.specs.Shapes.{shape_of}

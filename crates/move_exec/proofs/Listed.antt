@@ -1,5 +1,5 @@
 -- The programs of frames as lists: those of the frame's laws.
-use Rattle.std.proofs.Common.{◌≡◌, ℕ, zero, suc, ◌+◌, ◌*◌, ◌/◌, Bool, true, false, cond, List, [], ◌∷◌, ◌++◌, add-one, refl, ◌∙◌, ap}
+use Rattle.std.proofs.Common.{◌≡◌, ℕ, zero, suc, ◌+◌, Bool, List, [], ◌++◌, add-one, refl, ap}
 use Rattle.element_ops.specs.Elements.{Registers}
 use Rattle.frame_laws.specs.Programs.{one_register, first_registers, program}
 use Rattle.micro_ir.specs.declared.op.MicroOp.{MicroOp}

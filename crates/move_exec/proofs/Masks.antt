@@ -1,26 +1,24 @@
 -- Instructions that write the bits of a mask; and of these the logic of masks, a truth of the bits of two masks.
-use Rattle.std.proofs.Common.{◌≡◌, ◌≢◌, ℕ, zero, suc, ◌+◌, ◌*◌, ◌/◌, ◌<◌, ◌≤◌, Bool, true, false, cond, ◌&&◌, ◌||◌, eqb, ltb, List, refl, sym, ◌∙◌, ap, arith, ◌⊎◌, inl, inr, ⊎_elim}
+use Rattle.std.proofs.Common.{◌≡◌, ◌≢◌, ℕ, ◌+◌, ◌*◌, ◌/◌, ◌<◌, ◌≤◌, Bool, true, false, ◌&&◌, ◌||◌, eqb, ltb, List, refl, sym, ◌∙◌, ap, arith, inl, inr, ⊎_elim}
 use Rattle.std.specs.Int.{from_bool}
-use Rattle.std.proofs.lemmas.Bool.{and_parts, ltb-true, or_left, or_right, or_cases, eq-eqb, eqb-true, cases_lt, false≢true}
+use Rattle.std.proofs.lemmas.Bool.{ltb-true, or_left, or_right, or_cases, eq-eqb, eqb-true, cases_lt, false≢true}
 use Rattle.bit_laws.specs.Numbers.{number, low}
 use Rattle.bit_rows.specs.Slices.{Slices}
 use Rattle.steer_net.specs.Network.{bit_in}
 use Rattle.element_ops.specs.Elements.{Registers, bits_of, mask_bit_of}
-use Rattle.cam_chain.specs.Views.{registers_of}
 use Rattle.micro_ir.specs.declared.op.MicroOp.{MicroOp}
 use Rattle.micro_ir.specs.Kinds.{RealisesBits}
 use Rattle.micro_ir.specs.Replay.{replay}
 use Rattle.micro_ir.specs.Steps.{element}
 use Rattle.micro_ir.specs.WorkRows.{result_row, mask_row}
 use Rattle.gen_logic.specs.declared.kinds.Logic.{Logic}
-use Rattle.gen_logic.specs.declared.kinds.Logic.TheVariants.{And, Or, Xor, Nand, Nor, Xnor, Andn, Orn, First, Second, Merge}
+use Rattle.gen_logic.specs.declared.kinds.Logic.TheVariants.{Merge}
 use Rattle.gen_logic.specs.Recipes.{logic_ops}
 use Rattle.gen_logic.specs.Values.{truth_of, takes_mask}
 use Rattle.gen_logic.proofs.Tables.{logic-bits, logic-measured}
 use Rattle.row_views.proofs.Views.{element-view, view-in}
-use Rattle.frame_laws.specs.Shapes.{Shape, Bounds, Bounded, first_of}
-use Rattle.frame_laws.specs.Bytes.{AreResults}
-use Rattle.frame_laws.specs.Laws.{SameAt, Framed, Legal, AllRealised}
+use Rattle.frame_laws.specs.Shapes.{Shape, Bounded, first_of}
+use Rattle.frame_laws.specs.Laws.{Framed, Legal}
 use Rattle.frame_laws.specs.Realising.{Realised}
 use Rattle.frame_laws.proofs.Ends.{usual_bounds_law}
 use Rattle.rvv_decode.specs.declared.instruction.VInstr.{VInstr}

@@ -16,7 +16,7 @@ use Rattle.micro_ir.specs.Replay.{replay, clips}
 use Rattle.rvv_decode.specs.declared.instruction.VInstr.{VInstr}
 use Rattle.vtype_cfg.specs.declared.configuration.Cfg.{Cfg}
 use Rattle.vtype_cfg.specs.declared.configuration.Policy.TheVariants.{Keep}
-use Rattle.rvv_meaning.specs.Elementwise.{Elementwise, makes_mask, registers_after, clips_below, clips as clips_elements}
+use Rattle.rvv_meaning.specs.Elementwise.{Elementwise, makes_mask, registers_after, clips_below}
 use Rattle.rvv_meaning.specs.Operations.{operation_for}
 use Rattle.rvv_meaning.specs.Vectors.{left_of}
 use Rattle.rvv_meaning.specs.Whole.{Left, elements, Leaving, whole_for}

@@ -1,5 +1,5 @@
 -- What the programs of frames cost, how long they are, and that a chain can run them.
-use Rattle.std.proofs.Common.{◌≡◌, ℕ, ◌+◌, ◌*◌, ◌/◌, ◌<◌, Bool, true, false, List, length, refl, sym, ◌∙◌, ap, subst}
+use Rattle.std.proofs.Common.{◌≡◌, ℕ, ◌<◌, Bool, true, List, length, sym, ◌∙◌, ap, subst}
 use Rattle.cam_chain.specs.declared.counts.Counts.{Counts}
 use Rattle.element_ops.specs.Elements.{Registers}
 use Rattle.frame_laws.specs.Shapes.{Shape}

@@ -1,7 +1,7 @@
 -- The places that stand so to the first one of a mask: before it, up to it, or at it.
-use Rattle.std.proofs.Common.{◌≡◌, ◌≢◌, ℕ, ◌+◌, ◌*◌, ◌/◌, ◌%◌, ◌<◌, ◌≤◌, Bool, true, false, cond, not, ◌&&◌, ◌||◌, eqb, ltb, leb, List, refl, sym, ◌∙◌, ap, arith, inl}
+use Rattle.std.proofs.Common.{◌≡◌, ℕ, ◌+◌, ◌*◌, ◌/◌, ◌%◌, ◌<◌, ◌≤◌, Bool, true, false, cond, not, ◌&&◌, ◌||◌, eqb, ltb, leb, List, refl, sym, ◌∙◌, ap, arith, inl}
 use Rattle.std.specs.Int.{from_bool}
-use Rattle.std.proofs.lemmas.Bool.{and_parts, ltb-true, lt-ltb, le-leb, eq-eqb, ne_eqb, false≢true}
+use Rattle.std.proofs.lemmas.Bool.{and_parts, ltb-true, lt-ltb, le-leb, eq-eqb, ne_eqb}
 use Rattle.std.proofs.lemmas.Nat.{div-add-mod'}
 use Rattle.std.proofs.Math.Nat.{mod-lt}
 use Rattle.bit_rows.specs.Slices.{Slices}
@@ -87,7 +87,7 @@ module _ (how : Reach) (i : VInstr) (c : Cfg) (start : c.vstart ≡ 0) (long : c
       let most : 32 * s.columns ≤ no_place = omega (arith, vl, long) in
       let after : col < (replay ops s).columns = rw (replay-columns ops s) inside in
       let bit : (r : ℕ) → r ≤ scalar_row
-          → element 1 k col (replay ops s) r 0 ≡ cond (eqb r (i.vd + 0) && bit_in s active_row e) (prefix_bit how (is_set (i.vs2 + 0) s) e) (bit_in s r e) =
+      → element 1 k col (replay ops s) r 0 ≡ cond (eqb r (i.vd + 0) && bit_in s active_row e) (prefix_bit how (is_set (i.vs2 + 0) s) e) (bit_in s r e) =
       λ r low. here (replay ops s) k col r fits after ∙ marks s r e most low below in
       let same : eqb (i.vd + 0) (i.vd + 0) ≡ true = eq-eqb (i.vd + 0) (i.vd + 0) refl in
       let low : i.vd + 0 ≤ scalar_row = omega arith in

@@ -1,5 +1,5 @@
 -- Lists that set no flag of clipped results.
-use Rattle.std.proofs.Common.{◌≡◌, ℕ, zero, suc, ◌+◌, ◌*◌, ◌/◌, Bool, true, false, cond, ◌||◌, List, [], ◌∷◌, ◌++◌, refl, ◌∙◌}
+use Rattle.std.proofs.Common.{◌≡◌, ℕ, zero, suc, ◌+◌, ◌*◌, ◌/◌, Bool, true, false, cond, List, [], ◌++◌, refl, ◌∙◌}
 use Rattle.bit_rows.specs.Slices.{Slices}
 use Rattle.gen_reduce.specs.Masks.{prefix_search}
 use Rattle.micro_ir.specs.declared.op.MicroOp.{MicroOp}

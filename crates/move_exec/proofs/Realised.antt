@@ -2,7 +2,6 @@
 use Rattle.std.proofs.Common.{◌≡◌, ℕ, ◌<◌, Bool, true, false, not, Some, refl, ◌∙◌, ap, arith}
 use Rattle.std.specs.Prelude.{IsTrue}
 use Rattle.std.proofs.lemmas.Bool.{false≢true}
-use Rattle.gen_logic.specs.declared.kinds.Logic.{Logic}
 use Rattle.legal_groups.specs.Facts.{GroupWritten}
 use Rattle.legal_groups.proofs.Laws.{legal_group_law}
 use Rattle.legal_groups.proofs.Rules.{legal_law}
@@ -10,6 +9,7 @@ use Rattle.rvv_decode.specs.Ranges.{IsInRange}
 use Rattle.rvv_decode.specs.declared.instruction.VInstr.{VInstr}
 use Rattle.steer_net.specs.declared.reach.Reach.{Reach}
 use Rattle.vtype_cfg.specs.declared.configuration.Cfg.{Cfg}
+use Rattle.vtype_cfg.specs.declared.configuration.Policy.TheVariants.{Keep}
 use Rattle.vtype_cfg.specs.Classes.{index, mask_first, row_of, starts_at_zero, may_write_mask}
 use Rattle.vtype_cfg.specs.Legality.{is_legal}
 use Rattle.vtype_cfg.specs.Settings.{is_valid}
@@ -66,7 +66,7 @@ planned (Marks how) i c x is fields valid legal =
     let sound = marks-sound how i c m.start long fields.vd fields.vs2 m.spares in
     record {
       ready = sound.ready;
-      fine = sound-fine i c x _ _ false 8 0 _ sound valid (λ v. left-is i c x (leaving_of (Marks how)) k.none k.whole v ∙ ap Some (marks-leave how i c x m.start long fields.vd fields.vs2 m.spares v));
+      fine = sound-fine i c x _ _ false 8 0 _ sound valid (λ v. left-is i c x (leaving_of (Marks how)) k.none k.whole v ∙ ap Some (marks-leave how i (record c { policy = Keep }) x m.start long fields.vd fields.vs2 m.spares v));
     }
 planned Numbers i c x is fields valid legal =
     let k = of-kind i.op Numbers is in

@@ -1,5 +1,5 @@
 -- What makes the program of an instruction realise it, and the costs that follow.
-use Rattle.std.proofs.Common.{◌≡◌, ℕ, ◌+◌, ◌*◌, ◌/◌, ◌<◌, ◌≤◌, Bool, true, false, eqb, List, length, Some, refl, sym, ◌∙◌, ap, arith, ◌⊎◌, inl, inr, ⊎_elim}
+use Rattle.std.proofs.Common.{◌≡◌, ℕ, ◌+◌, ◌*◌, ◌/◌, ◌<◌, Bool, true, false, eqb, List, length, Some, refl, sym, ◌∙◌, ap, arith, ◌⊎◌, inl, inr, ⊎_elim}
 use Rattle.std.specs.Prelude.{IsTrue}
 use Rattle.bit_rows.specs.Slices.{Slices}
 use Rattle.cam_chain.specs.Views.{registers_of}
@@ -16,13 +16,13 @@ use Rattle.legal_groups.specs.Facts.{IsElementWidth}
 use Rattle.micro_ir.specs.declared.op.MicroOp.{MicroOp}
 use Rattle.micro_ir.specs.declared.op.MicroOp.TheVariants.{Slide, Pick, Index}
 use Rattle.micro_ir.specs.Replay.{replay, tally, AllInRange}
-use Rattle.micro_ir.specs.WorkRows.{active_row, scalar_row, result_row}
+use Rattle.micro_ir.specs.WorkRows.{scalar_row, result_row}
 use Rattle.micro_ir.proofs.Effects.{commit-cost}
 use Rattle.micro_ir.proofs.PieceLists.{commit-list}
 use Rattle.rvv_decode.specs.declared.instruction.VInstr.{VInstr}
 use Rattle.rvv_meaning.specs.Elementwise.{Elementwise, makes_mask, registers_after}
 use Rattle.rvv_meaning.specs.Vectors.{left_of}
-use Rattle.rvv_meaning.specs.Whole.{Left, elements}
+use Rattle.rvv_meaning.specs.Whole.{elements}
 use Rattle.steer_net.specs.Network.{is_width}
 use Rattle.vtype_cfg.specs.declared.configuration.Cfg.{Cfg}
 use Rattle.vtype_cfg.specs.Settings.{is_valid}

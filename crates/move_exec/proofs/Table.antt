@@ -2,7 +2,7 @@
 use Rattle.std.proofs.Common.{◌≡◌, Bool, true, false, cond, not, Option, None, Some, refl, ap, subst}
 use Rattle.gen_logic.specs.Values.{takes_mask, differs, xnor}
 use Rattle.rvv_decode.specs.declared.instruction.VOp.{VOp}
-use Rattle.rvv_decode.specs.declared.instruction.VOp.TheVariants.{Opi, Opm, Config, Memory}
+use Rattle.rvv_decode.specs.declared.instruction.VOp.TheVariants.{Opm}
 use Rattle.rvv_decode.specs.declared.instruction.OpmOp.TheVariants.{Vmand, Vmor, Vmxor, Vmnand, Vmnor, Vmxnor, Vmandn, Vmorn, Vmsbf, Vmsif, Vmsof, Vid}
 use Rattle.vtype_cfg.specs.Classes.{opm_class, class_of}
 use Rattle.rvv_meaning.specs.Operations.{operation_for}

@@ -4,7 +4,7 @@ use Rattle.std.specs.Prelude.{IsTrue}
 use Rattle.std.proofs.lemmas.Bool.{and_parts}
 use Rattle.vtype_cfg.specs.declared.configuration.Cfg.{Cfg}
 use Rattle.vtype_cfg.specs.Settings.{is_valid, is_vill_or_supported, is_legal_vlen}
-use Rattle.vtype_cfg.proofs.Lengths.{vlen_from, vlen_words}
+use Rattle.vtype_cfg.proofs.Lengths.{vlen_from}
 use Rattle.vtype_cfg.proofs.Supported.{vlen_bounded}
 
 pub valid-setting : (c : Cfg) → IsTrue (is_valid c) → IsTrue (is_vill_or_supported c.vtype)

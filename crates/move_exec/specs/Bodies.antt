@@ -1,5 +1,5 @@
 -- The lists that compute the registers of an instruction.
-use Rattle.std.specs.Prelude.{◌≡◌, ℕ, ◌+◌, ◌*◌, ◌/◌, ◌<◌, ◌≤◌, Bool, true, false, cond, eqb, List}
+use Rattle.std.specs.Prelude.{◌≡◌, ℕ, ◌+◌, ◌*◌, ◌/◌, ◌<◌, ◌≤◌, false, cond, eqb, List}
 use Rattle.cam_chain.specs.declared.counts.Counts.{Counts}
 use Rattle.gen_logic.specs.Recipes.{logic_ops, logic_length, logic_counts}
 use Rattle.gen_perm.specs.Lists.{move_ops}

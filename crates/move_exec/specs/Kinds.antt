@@ -1,12 +1,11 @@
 -- The kinds of instruction, what each leaves, and what computes it.
-use Rattle.std.specs.Prelude.{◌≡◌, ℕ, ◌+◌, ◌*◌, ◌/◌, Bool, true, false, cond, not, ◌&&◌, ◌||◌, eqb, Option, None, Some}
+use Rattle.std.specs.Prelude.{ℕ, Bool, false, not, ◌&&◌, Option, None, Some}
 use lib.Dec.{ltb}
-use Rattle.gen_logic.specs.declared.kinds.Logic.{Logic}
 use Rattle.gen_logic.specs.declared.kinds.Logic.TheVariants.{And, Or, Xor, Nand, Nor, Xnor, Andn, Orn}
 use Rattle.gen_logic.specs.Values.{truth_of}
 use Rattle.rvv_decode.specs.declared.instruction.VInstr.{VInstr}
 use Rattle.rvv_decode.specs.declared.instruction.VOp.{VOp}
-use Rattle.rvv_decode.specs.declared.instruction.VOp.TheVariants.{Opi, Opm}
+use Rattle.rvv_decode.specs.declared.instruction.VOp.TheVariants.{Opm}
 use Rattle.rvv_decode.specs.declared.instruction.OpmOp.{OpmOp}
 use Rattle.rvv_decode.specs.declared.instruction.OpmOp.TheVariants.{Vmand, Vmor, Vmxor, Vmnand, Vmnor, Vmxnor, Vmandn, Vmorn, Vmsbf, Vmsif, Vmsof, Vid}
 use Rattle.steer_net.specs.declared.reach.Reach.TheVariants.{Before, Upto, At}

@@ -5,7 +5,7 @@ use Rattle.std.proofs.lemmas.Bool.{cases_Bool, false≢true}
 use Rattle.rvv_decode.specs.declared.instruction.OpmOp.{OpmOp}
 use Rattle.rvv_decode.specs.declared.instruction.OpiOp.{OpiOp}
 use Rattle.rvv_decode.specs.declared.instruction.OpiOp.TheVariants.{Vrgather, Vrgatherei16}
-use Rattle.rvv_decode.specs.declared.instruction.OpmOp.TheVariants.{VmvXS, Vcompress, Viota, Vid, Vmand, Vmnand, Vmandn, Vmor, Vmnor, Vmorn, Vmxor, Vmxnor}
+use Rattle.rvv_decode.specs.declared.instruction.OpmOp.TheVariants.{VmvXS, Vcompress, Viota, Vid, Vmand, Vmnand, Vmandn, Vmor, Vmnor, Vmorn, Vmxor, Vmxnor, Vmsbf, Vmsif, Vmsof}
 use Rattle.rvv_decode.specs.declared.instruction.Form.{Form}
 use Rattle.rvv_decode.specs.declared.instruction.VInstr.{VInstr}
 use Rattle.rvv_decode.specs.declared.instruction.VOp.{VOp}
@@ -31,6 +31,9 @@ whole-opm Vmnor whole runs = refl
 whole-opm Vmorn whole runs = refl
 whole-opm Vmxor whole runs = refl
 whole-opm Vmxnor whole runs = refl
+whole-opm Vmsbf whole runs = refl
+whole-opm Vmsif whole runs = refl
+whole-opm Vmsof whole runs = refl
 whole-opm _ whole runs = absurd (false≢true whole)
 
 whole-kind : (op : VOp) (form : Form) → is_some (whole_for op) ≡ true → is_engine_op op form ≡ true → is_some (kind_for op) ≡ true
@@ -83,6 +86,9 @@ opm-moves Vmnor whole apart = absurd (false≢true (sym apart))
 opm-moves Vmorn whole apart = absurd (false≢true (sym apart))
 opm-moves Vmxor whole apart = absurd (false≢true (sym apart))
 opm-moves Vmxnor whole apart = absurd (false≢true (sym apart))
+opm-moves Vmsbf whole apart = absurd (false≢true (sym apart))
+opm-moves Vmsif whole apart = absurd (false≢true (sym apart))
+opm-moves Vmsof whole apart = absurd (false≢true (sym apart))
 opm-moves _ whole apart = absurd (false≢true whole)
 
 none-moves : (op : VOp) (form : Form) → is_some (whole_for op) ≡ true → is_engine_op op form ≡ false → makes_number op ≡ false → ⊥

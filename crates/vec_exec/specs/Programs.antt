@@ -288,7 +288,7 @@ abbrev pub whole_program : VInstr → Cfg → List MicroOp
 whole_program i c = option_map_or (λ kind. move_program kind i c) (kind_for i.op) []
 
 abbrev pub whole_cost : VInstr → Cfg → Counts
-whole_cost i c = option_map_or (λ kind. move_cost kind c) (kind_for i.op) no_counts
+whole_cost i c = option_map_or (λ kind. move_cost kind i c) (kind_for i.op) no_counts
 
 -- the program of an instruction, of those that are built
 unfoldable pub prog : VInstr → Cfg → (scalar : ℕ) → List MicroOp

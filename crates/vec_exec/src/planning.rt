@@ -64,6 +64,7 @@ const fn is_whole(op: VOp) -> bool
         VOp::Opm(OpmOp::Vmand | OpmOp::Vmnand | OpmOp::Vmandn) => true,
         VOp::Opm(OpmOp::Vmor | OpmOp::Vmnor | OpmOp::Vmorn) => true,
         VOp::Opm(OpmOp::Vmxor | OpmOp::Vmxnor) => true,
+        VOp::Opm(OpmOp::Vmsbf | OpmOp::Vmsif | OpmOp::Vmsof) => true,
         _ => false,
     }
 }

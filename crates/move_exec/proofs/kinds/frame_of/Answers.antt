@@ -1,4 +1,4 @@
-use Rattle.std.proofs.Common.{◌≡◌, ℕ, ◌<◌, ◌≤◌, Some, arith}
+use Rattle.std.proofs.Common.{◌≡◌, Some, arith}
 use Rattle.legal_groups.proofs.Widths.{width-least}
 use Rattle.vtype_cfg.specs.Classes.{index}
 use Rattle.move_exec.specs.declared.kinds.Kind.TheVariants.{Numbers}

@@ -1,6 +1,6 @@
-use Rattle.std.proofs.Common.{◌≡◌, ℕ, ◌+◌, ◌*◌, length, refl, sym, ◌∙◌, arith}
+use Rattle.std.proofs.Common.{refl, sym, ◌∙◌, arith}
 use Rattle.move_exec.specs.Programs.{move_program}
-use Rattle.move_exec.proofs.Emitted.{room, written}
+use Rattle.move_exec.proofs.Emitted.{written}
 use Rattle.move_exec.proofs.Realised.{planned}
 use Rattle.move_exec.proofs.Valid.{length-bounded}
 use Rattle.move_exec.proofs.planning.plan.Goals as goal
@@ -26,4 +26,4 @@ pub returns-clause-range : goal.returns-clause-range
 returns-clause-range c = rw (returns-clause-program c) (planned c.args.kind c.args.i.now c.args.cfg.now 0 c.requires.kind c.requires.fields c.requires.valid c.requires.legal).fine.range
 
 pub returns-clause-spare : goal.returns-clause-spare
-returns-clause-spare c = rw (returns-clause-program c, (planned c.args.kind c.args.i.now c.args.cfg.now 0 c.requires.kind c.requires.fields c.requires.valid c.requires.legal).fine.count, sym c.frame_of-frame.ensures, sym c.body_of.ensures) ?
+returns-clause-spare c = rw (returns-clause-program c, (planned c.args.kind c.args.i.now c.args.cfg.now 0 c.requires.kind c.requires.fields c.requires.valid c.requires.legal).fine.count, sym c.frame_of-frame.ensures, sym c.body_of.ensures) (omega (arith, written c.frame_of-frame.result c.body_of.result, c.emit_frame.ensures.spare))
