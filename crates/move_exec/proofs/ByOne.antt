@@ -44,7 +44,7 @@ use Rattle.move_exec.specs.declared.bodies.Body.TheVariants.{Slid}
 use Rattle.move_exec.specs.declared.frames.Frame.{Frame}
 use Rattle.move_exec.specs.Bodies.{body_list}
 use Rattle.move_exec.specs.Frames.{frame_bounds, frame_program}
-use Rattle.move_exec.specs.Kinds.{group_registers, group_frame}
+use Rattle.move_exec.specs.Written.{group_registers, group_frame}
 use Rattle.move_exec.specs.Laws.{Fine}
 use Rattle.move_exec.specs.Moves.{single_list}
 use Rattle.move_exec.specs.Programs.{scalar_program, scalar_cost, scalar_length}

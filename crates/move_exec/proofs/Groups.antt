@@ -23,7 +23,7 @@ use Rattle.move_exec.specs.declared.bodies.Body.TheVariants.{Numbers}
 use Rattle.move_exec.specs.declared.frames.Frame.{Frame}
 use Rattle.move_exec.specs.Bodies.{AllThere, body_list, emitted_at}
 use Rattle.move_exec.specs.Frames.{frame_shape, frame_bounds}
-use Rattle.move_exec.specs.Kinds.{group_registers, group_frame}
+use Rattle.move_exec.specs.Written.{group_registers, group_frame}
 use Rattle.move_exec.proofs.Sound.{Sound}
 
 -- a group of elements of SEW bits takes as many registers as such a group does

@@ -18,5 +18,6 @@ pub mod Scalars
 pub mod Wholes
 pub mod Kept
 pub mod ByOne
+pub mod MoveTable
 pub mod Realised
 pub mod Emitted

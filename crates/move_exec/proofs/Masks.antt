@@ -27,7 +27,7 @@ use Rattle.rvv_meaning.specs.Elementwise.{Elementwise}
 use Rattle.move_exec.specs.declared.bodies.Body.TheVariants.{Bits}
 use Rattle.move_exec.specs.Bodies.{AllThere, place_at, body_list}
 use Rattle.move_exec.specs.Frames.{frame_shape, frame_bounds}
-use Rattle.move_exec.specs.Kinds.{mask_frame}
+use Rattle.move_exec.specs.Written.{mask_frame}
 use Rattle.move_exec.proofs.Sound.{Sound}
 
 -- the truth does not depend on the mask

@@ -22,10 +22,10 @@ use Rattle.move_exec.specs.declared.bodies.Body.TheVariants.{Slid, Picked}
 use Rattle.move_exec.specs.declared.frames.Frame.{Frame}
 use Rattle.move_exec.specs.Bodies.{Ready, IsOfWidth, AllThere, emitted_at}
 use Rattle.move_exec.specs.Frames.{frame_shape}
-use Rattle.move_exec.specs.Kinds.{group_registers, group_frame}
-use Rattle.move_exec.specs.Moves.{amount_for, offset_frame, gathers_one}
+use Rattle.move_exec.specs.Written.{Sits, group_registers, group_frame, amount_for, offset_frame}
+use Rattle.move_exec.specs.Moves.{gathers_one}
 use Rattle.move_exec.proofs.Groups.{emitted-width}
-use Rattle.move_exec.proofs.Sized.{Sits, sized_shape}
+use Rattle.move_exec.proofs.Sized.{sized_shape}
 use Rattle.move_exec.proofs.Sources.{IsApart}
 use Rattle.move_exec.proofs.Slides.{slid_result, slid_source, up_result, picked_result, FitsDirection, element-here, slid-legal, slid-realised, slid-ranged, up-legal, up-realised, offset-sits, picked-legal, picked-realised, picked-ranged, offset-bounded, plain-bounded}
 use Rattle.move_exec.proofs.Sound.{Sound}

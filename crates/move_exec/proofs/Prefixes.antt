@@ -29,7 +29,8 @@ use Rattle.move_exec.specs.declared.bodies.Body.TheVariants.{Marked}
 use Rattle.move_exec.specs.declared.kinds.Kind.TheVariants.{Marks}
 use Rattle.move_exec.specs.Bodies.{AllThere, body_list}
 use Rattle.move_exec.specs.Frames.{frame_bounds}
-use Rattle.move_exec.specs.Kinds.{mask_frame, leaving_of}
+use Rattle.move_exec.specs.Kinds.{leaving_of}
+use Rattle.move_exec.specs.Written.{mask_frame}
 use Rattle.move_exec.proofs.Masks.{number-one, here, and-true, bits_shape, two_sources, bits-legal, bits-bounded}
 use Rattle.move_exec.proofs.Sound.{Sound}
 

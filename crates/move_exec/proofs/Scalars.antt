@@ -20,9 +20,9 @@ use Rattle.rvv_meaning.specs.Elementwise.{Elementwise}
 use Rattle.move_exec.specs.declared.bodies.Body.TheVariants.{Scalar}
 use Rattle.move_exec.specs.Bodies.{body_list}
 use Rattle.move_exec.specs.Frames.{frame_bounds}
-use Rattle.move_exec.specs.Moves.{first_frame}
+use Rattle.move_exec.specs.Written.{Sits, first_frame}
 use Rattle.move_exec.proofs.Moved.{no-bit, ready-of}
-use Rattle.move_exec.proofs.Sized.{Sits, sized_shape, sized-framed}
+use Rattle.move_exec.proofs.Sized.{sized_shape, sized-framed}
 use Rattle.move_exec.proofs.Sound.{Sound}
 
 -- a chain can run the list that takes the scalar to a register
@@ -34,7 +34,7 @@ module _ (i : VInstr) (c : Cfg) (x : ℕ) (wide : IsElementWidth c.vtype.sew) (r
   abbrev w : ℕ
   w = c.vtype.sew
 
-  first-sits : Sits (first_frame i c)
+  pub first-sits : Sits (first_frame i c)
   first-sits = record { wide = wide; few = omega arith; room = room; spares = λ t. absurd (false≢true t) }
 
   abbrev first_result : Registers → ℕ → Bool → ℕ

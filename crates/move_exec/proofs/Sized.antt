@@ -7,14 +7,8 @@ use Rattle.legal_groups.specs.Facts.{IsElementWidth}
 use Rattle.vtype_cfg.specs.declared.configuration.Cfg.{Cfg}
 use Rattle.move_exec.specs.declared.frames.Frame.{Frame}
 use Rattle.move_exec.specs.Frames.{frame_shape}
+use Rattle.move_exec.specs.Written.{Sits}
 use Rattle.move_exec.proofs.Groups.{framed-of}
-
--- the registers of a frame lie where they must
-pub record Sits (f : Frame) : Type 0 where
-  pub wide : IsElementWidth f.width
-  pub few : f.registers ≤ 8
-  pub room : f.vd + f.registers ≤ 32
-  pub spares : f.masked ≡ true → 0 < f.vd
 
 -- the shape of a frame whose scalar, where it takes one, is as wide as its elements
 abbrev pub sized_shape : Frame → Cfg → (takes : Bool) → (x : ℕ) → (result : Registers → ℕ → Bool → ℕ) → Shape
@@ -22,4 +16,3 @@ sized_shape f c takes x result = frame_shape f c takes f.width x result
 
 pub sized-framed : (f : Frame) (c : Cfg) (takes : Bool) (x columns : ℕ) (result : Registers → ℕ → Bool → ℕ) → Sits f → c.vlen ≡ 32 * columns → Framed (sized_shape f c takes x result) columns
 sized-framed f c takes x columns result sits long = framed-of f c takes f.width x columns result sits.wide sits.wide sits.few sits.room sits.spares long
-

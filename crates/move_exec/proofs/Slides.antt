@@ -29,9 +29,8 @@ use Rattle.move_exec.specs.declared.bodies.Body.TheVariants.{Slid, Picked}
 use Rattle.move_exec.specs.declared.frames.Frame.{Frame}
 use Rattle.move_exec.specs.Bodies.{body_list}
 use Rattle.move_exec.specs.Frames.{frame_bounds}
-use Rattle.move_exec.specs.Kinds.{group_registers, group_frame}
-use Rattle.move_exec.specs.Moves.{offset_frame}
-use Rattle.move_exec.proofs.Sized.{Sits, sized_shape, sized-framed}
+use Rattle.move_exec.specs.Written.{Sits, group_registers, group_frame, offset_frame}
+use Rattle.move_exec.proofs.Sized.{sized_shape, sized-framed}
 use Rattle.move_exec.proofs.Sources.{IsApart, group_source, apart-unwritten, ahead-unwritten, element-agrees, up-agrees, down-agrees, pick-agrees}
 use Rattle.move_exec.proofs.Standing.{Grouped}
 

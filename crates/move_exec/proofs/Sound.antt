@@ -97,7 +97,7 @@ module _ (i : VInstr) (c : Cfg) (x : ℕ) (f : Frame) (body : Body) (takes : Boo
   abbrev shape : Shape
   shape = frame_shape f c takes w z sound.result
 
-  leaves : (s : Slices) → c.vlen ≡ 32 * s.columns → registers_of (replay (scalar_program f body c takes w z) s) ≡ registers_after c (e (registers_of s)) (registers_of s)
+  pub leaves : (s : Slices) → c.vlen ≡ 32 * s.columns → registers_of (replay (scalar_program f body c takes w z) s) ≡ registers_after c (e (registers_of s)) (registers_of s)
   leaves s long =
       let v : List (List ℕ) = registers_of s in
       let some : 0 < s.columns = some-columns c s.columns valid long in

@@ -16,8 +16,7 @@ use Rattle.vtype_cfg.specs.Classes.{Class, Place, group as group_place, whole, n
 use Rattle.vtype_cfg.specs.Legality.{is_legal}
 use Rattle.vtype_cfg.specs.Settings.{is_valid, is_legal_vlen, vlmax}
 use Rattle.vtype_cfg.proofs.Lengths.{vlen_from, vlen_words}
-use Rattle.move_exec.specs.Kinds.{group_registers, group_frame}
-use Rattle.move_exec.proofs.Sized.{Sits}
+use Rattle.move_exec.specs.Written.{Sits, group_registers, group_frame}
 use Rattle.move_exec.proofs.Sources.{IsApart}
 use Rattle.move_exec.proofs.Valid.{valid-setting, valid-length}
 

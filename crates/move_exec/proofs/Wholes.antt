@@ -27,9 +27,9 @@ use Rattle.rvv_meaning.specs.Elementwise.{Elementwise, size_of}
 use Rattle.move_exec.specs.declared.bodies.Body.TheVariants.{Bits}
 use Rattle.move_exec.specs.Bodies.{body_list}
 use Rattle.move_exec.specs.Frames.{frame_bounds}
-use Rattle.move_exec.specs.Moves.{whole_width, whole_length, whole_frame}
+use Rattle.move_exec.specs.Written.{Sits, whole_width, whole_length, whole_frame}
 use Rattle.move_exec.proofs.Moved.{no-bit, ready-of}
-use Rattle.move_exec.proofs.Sized.{Sits, sized_shape, sized-framed}
+use Rattle.move_exec.proofs.Sized.{sized_shape, sized-framed}
 use Rattle.move_exec.proofs.Sound.{Sound}
 use Rattle.move_exec.proofs.Sources.{IsApart}
 
@@ -49,7 +49,7 @@ module _ (i : VInstr) (c : Cfg) (x : ℕ) (o : Wholly i c) where
   abbrev w : ℕ
   w = whole_width c
 
-  whole-sits : Sits (whole_frame i c)
+  pub whole-sits : Sits (whole_frame i c)
   whole-sits = record { wide = o.wide; few = o.few; room = o.vd; spares = λ t. absurd (false≢true t) }
 
   abbrev whole_result : Registers → ℕ → Bool → ℕ

@@ -1,10 +1,11 @@
 -- The instructions that move elements between places, or bring a scalar into one: what each leaves, and what computes it.
-use Rattle.std.specs.Prelude.{ℕ, ◌+◌, ◌-◌, ◌*◌, ◌/◌, Bool, true, false, cond, not, ◌&&◌, eqb, max, min, List, [], Option, None, Some}
+use Rattle.std.specs.Prelude.{◌≡◌, ℕ, ◌+◌, ◌-◌, ◌*◌, ◌/◌, ◌^◌, ◌<◌, Bool, true, false, cond, not, ◌&&◌, eqb, max, min, List, [], Option, None, Some}
 use lib.Dec.{ltb}
 use Rattle.cam_chain.specs.ChainValue.{no_counts}
 use Rattle.cam_chain.specs.declared.counts.Counts.{Counts}
 use Rattle.gen_logic.specs.declared.kinds.Logic.TheVariants.{Second}
 use Rattle.gen_perm.specs.Lists.{single_ops}
+use Rattle.legal_groups.specs.Facts.{IsElementWidth}
 use Rattle.micro_ir.specs.Measures.{counts}
 use Rattle.micro_ir.specs.WorkRows.{active_row}
 use Rattle.micro_ir.specs.declared.op.MicroOp.{MicroOp}
@@ -28,26 +29,7 @@ use Rattle.move_exec.specs.declared.bodies.Body.TheVariants.{Bits, Slid, Picked,
 use Rattle.move_exec.specs.declared.frames.Frame.{Frame}
 use Rattle.move_exec.specs.declared.moves.Move.{Move}
 use Rattle.move_exec.specs.declared.moves.Move.TheVariants.{Up, Down, UpByOne, DownByOne, Gathered, ScalarIn, Whole}
-use Rattle.move_exec.specs.Kinds.{group_frame}
-
--- how an instruction moves elements, where it does
-abbrev pub opi_move : OpiOp → Option Move
-opi_move Vslideup = Some Up
-opi_move Vslidedown = Some Down
-opi_move Vrgather = Some Gathered
-opi_move VmvWhole = Some Whole
-opi_move _ = None
-
-abbrev pub opm_move : OpmOp → Option Move
-opm_move Vslide1up = Some UpByOne
-opm_move Vslide1down = Some DownByOne
-opm_move VmvSX = Some ScalarIn
-opm_move _ = None
-
-unfoldable pub move_for : VOp → Option Move
-move_for (Opi op) = opi_move op
-move_for (Opm op) = opm_move op
-move_for _ = None
+use Rattle.move_exec.specs.Written.{group_frame, offset_frame, first_frame, whole_frame, amount_for}
 
 -- what such an instruction leaves, and its class
 abbrev pub moved : Move → Leaving
@@ -74,55 +56,11 @@ gathers_one V = false
 gathers_one X = true
 gathers_one I = true
 
-abbrev pub has_program : Move → Form → Bool
-has_program Gathered form = gathers_one form
-has_program _ form = true
-
--- how far a slide moves, and the index of a gather: the scalar, or the immediate without a sign
-abbrev pub amount_for : Form → (vs1 x : ℕ) → ℕ
-amount_for V vs1 x = 0
-amount_for X vs1 x = x
-amount_for I vs1 x = vs1
+abbrev pub moves_in : Move → Form → Bool
+moves_in Gathered form = gathers_one form
+moves_in _ form = true
 
 -- ---- what it writes
-
--- a group, from the amount on
-abbrev pub offset_frame : VInstr → Cfg → (amount : ℕ) → Frame
-offset_frame i c amount = record (group_frame i c) { from = max c.vstart amount }
-
--- element 0 of the register vd, where the vector length is not 0
-abbrev pub first_frame : VInstr → Cfg → Frame
-first_frame i c = record {
-  vd = i.vd;
-  registers = 1;
-  width = c.vtype.sew;
-  masked = false;
-  ones = is_ones c.policy;
-  tail = ltb c.vstart c.vl && c.vtype.vta;
-  from = c.vstart;
-  len = min 1 c.vl;
-  until = max c.vstart (min 1 c.vl);
-}
-
--- whole registers, with bytes as their elements where no setting is in force; none of their elements is agnostic
-abbrev pub whole_width : Cfg → ℕ
-whole_width c = cond c.vtype.vill 8 c.vtype.sew
-
-abbrev pub whole_length : VInstr → Cfg → ℕ
-whole_length i c = (i.vs1 + 1) * (c.vlen / whole_width c)
-
-abbrev pub whole_frame : VInstr → Cfg → Frame
-whole_frame i c = record {
-  vd = i.vd;
-  registers = i.vs1 + 1;
-  width = whole_width c;
-  masked = false;
-  ones = false;
-  tail = ltb c.vstart (whole_length i c) && c.vtype.vta;
-  from = c.vstart;
-  len = whole_length i c;
-  until = whole_length i c;
-}
 
 abbrev pub frame_of_move : Move → VInstr → Cfg → (x : ℕ) → Frame
 frame_of_move Up i c x = offset_frame i c (amount_for i.form i.vs1 x)
@@ -135,21 +73,24 @@ frame_of_move Whole i c x = whole_frame i c
 
 -- ---- what computes it
 
+abbrev pub slid_body : VInstr → Cfg → (up : Bool) → (by : ℕ) → Body
+slid_body i c up by = Slid i.vs2 up by (vlmax c.vtype c.vlen)
+
 abbrev pub body_of_move : Move → VInstr → Cfg → (x : ℕ) → Body
-body_of_move Up i c x = Slid i.vs2 true (amount_for i.form i.vs1 x) (vlmax c.vtype c.vlen)
-body_of_move Down i c x = Slid i.vs2 false (amount_for i.form i.vs1 x) (vlmax c.vtype c.vlen)
-body_of_move UpByOne i c x = Slid i.vs2 true 1 (vlmax c.vtype c.vlen)
-body_of_move DownByOne i c x = Slid i.vs2 false 1 (vlmax c.vtype c.vlen)
+body_of_move Up i c x = slid_body i c true (amount_for i.form i.vs1 x)
+body_of_move Down i c x = slid_body i c false (amount_for i.form i.vs1 x)
+body_of_move UpByOne i c x = slid_body i c true 1
+body_of_move DownByOne i c x = slid_body i c false 1
 body_of_move Gathered i c x = Picked i.vs2 (amount_for i.form i.vs1 x) (vlmax c.vtype c.vlen)
 body_of_move ScalarIn i c x = Scalar
 body_of_move Whole i c x = Bits Second i.vs2 i.vs2
 
 -- whether its program begins with the scalar
-abbrev pub takes_scalar : Move → Bool
-takes_scalar UpByOne = true
-takes_scalar DownByOne = true
-takes_scalar ScalarIn = true
-takes_scalar _ = false
+abbrev pub moves_scalar : Move → Bool
+moves_scalar UpByOne = true
+moves_scalar DownByOne = true
+moves_scalar ScalarIn = true
+moves_scalar _ = false
 
 -- The scalar into one element, after the group: the operations on the register that has it, from a number on.
 abbrev pub single_list : VInstr → Cfg → (number start : ℕ) → List MicroOp
@@ -177,3 +118,16 @@ abbrev pub single_length : Move → ℕ
 single_length UpByOne = 5
 single_length DownByOne = 5
 single_length _ = 0
+
+-- the element lies in a register of elements of SEW bits that there is
+pub record IsPlaced (i : VInstr) (c : Cfg) (number : ℕ) : Type 0 where
+  pub wide : IsElementWidth c.vtype.sew
+  pub some : 0 < c.vlen / c.vtype.sew
+  pub room : i.vd + number / (c.vlen / c.vtype.sew) < 32
+  pub small : number < 2 ^ 31
+
+-- What the emission of these operations at w bits needs.
+abbrev pub HasLast : Move → (w : ℕ) → VInstr → Cfg → Type 0
+HasLast UpByOne w i c = (c.vtype.sew ≡ w) × IsPlaced i c 0
+HasLast DownByOne w i c = (c.vtype.sew ≡ w) × IsPlaced i c (c.vl - 1)
+HasLast _ w i c = Unit {0}
