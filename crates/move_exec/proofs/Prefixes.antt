@@ -29,7 +29,8 @@ use Rattle.move_exec.specs.declared.bodies.Body.TheVariants.{Marked}
 use Rattle.move_exec.specs.declared.kinds.Kind.TheVariants.{Marks}
 use Rattle.move_exec.specs.Bodies.{AllThere, body_list}
 use Rattle.move_exec.specs.Frames.{frame_bounds}
-use Rattle.move_exec.specs.Kinds.{mask_frame, leaving_of}
+use Rattle.move_exec.specs.Kinds.{leaving_of}
+use Rattle.move_exec.specs.Written.{mask_frame}
 use Rattle.move_exec.proofs.Masks.{number-one, here, and-true, bits_shape, two_sources, bits-legal, bits-bounded}
 use Rattle.move_exec.proofs.Sound.{Sound}
 
@@ -124,7 +125,7 @@ module _ (how : Reach) (i : VInstr) (c : Cfg) (start : c.vstart ≡ 0) (long : c
     clipped = λ w e. false;
   }
 
-  pub marks-sound : Sound (mask_frame (not i.vm) i c) (Marked i.vs2 how) c marks_elements
+  pub marks-sound : Sound (mask_frame (not i.vm) i c) (Marked i.vs2 how) c false 8 0 marks_elements
   unfolding bits_of
   marks-sound =
       let there : (g : ℕ) → g < 1 → AllThere (mask_frame (not i.vm) i c) (Marked i.vs2 how) g = λ g l. (omega arith, omega arith) in
@@ -139,7 +140,7 @@ module _ (how : Reach) (i : VInstr) (c : Cfg) (start : c.vstart ≡ 0) (long : c
         realised = λ g l. let z : g ≡ 0 = omega arith in rw z only-realised;
         range = λ g l. (prefix-measured (i.vs2 + g) how (i.vd + g) (there g l).0).range (c.vlen / 32);
         shape = λ v. ap (λ (t : Bool). record marks_shape { tail = t }) (and-true (ltb c.vstart c.vl));
-        results = λ v e l. refl;
+        results = λ s long e l. refl;
         unclipped = λ v k. refl;
       }
 

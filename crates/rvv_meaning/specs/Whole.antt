@@ -12,9 +12,9 @@ use Rattle.rvv_decode.specs.declared.instruction.VOp.TheVariants.{Opi, Opm}
 use Rattle.rvv_decode.specs.declared.instruction.Form.{Form}
 use Rattle.rvv_decode.specs.declared.instruction.Form.TheVariants.{V, X, I}
 use Rattle.rvv_decode.specs.declared.instruction.OpiOp.{OpiOp}
-use Rattle.rvv_decode.specs.declared.instruction.OpiOp.TheVariants.{Vwredsumu, Vwredsum}
+use Rattle.rvv_decode.specs.declared.instruction.OpiOp.TheVariants.{Vslideup, Vslidedown, VmvWhole, Vwredsumu, Vwredsum}
 use Rattle.rvv_decode.specs.declared.instruction.OpmOp.{OpmOp}
-use Rattle.rvv_decode.specs.declared.instruction.OpmOp.TheVariants.{Vredsum, Vredand, Vredor, Vredxor, Vredminu, Vredmin, Vredmaxu, Vredmax, VmvXS, Vcpop, Vfirst, Vid, Vmand, Vmnand, Vmandn, Vmor, Vmnor, Vmorn, Vmxor, Vmxnor, Vmsbf, Vmsif, Vmsof}
+use Rattle.rvv_decode.specs.declared.instruction.OpmOp.TheVariants.{Vredsum, Vredand, Vredor, Vredxor, Vredminu, Vredmin, Vredmaxu, Vredmax, VmvXS, Vcpop, Vfirst, Vid, Vmand, Vmnand, Vmandn, Vmor, Vmnor, Vmorn, Vmxor, Vmxnor, Vmsbf, Vmsif, Vmsof, Vslide1up, Vslide1down, VmvSX}
 use Rattle.vtype_cfg.specs.declared.configuration.Cfg.{Cfg}
 use Rattle.vtype_cfg.specs.Classes.{group as group_place, count_at}
 use Rattle.vtype_cfg.specs.Settings.{vlmax}
@@ -275,4 +275,10 @@ whole_for (Opm Vmxnor) = Some (λ i c x v. mask_logic i c x v (λ a b. not (cond
 whole_for (Opm Vmsbf) = Some before_first
 whole_for (Opm Vmsif) = Some up_to_first
 whole_for (Opm Vmsof) = Some only_first
+whole_for (Opi Vslideup) = Some slid_up
+whole_for (Opi Vslidedown) = Some slid_down
+whole_for (Opi VmvWhole) = Some moved_whole
+whole_for (Opm Vslide1up) = Some slid_up_by_one
+whole_for (Opm Vslide1down) = Some slid_down_by_one
+whole_for (Opm VmvSX) = Some scalar_in_first
 whole_for _ = None
