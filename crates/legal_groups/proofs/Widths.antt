@@ -75,6 +75,20 @@ vlmax-held_at vt w vlen width setting there divides =
     let fits : vt.lmul8 * vlen ≤ 8 * vt.sew * (n * per) = omega arith in
     rw there (div-le_of_le-mul (8 * vt.sew) fits)
 
+-- LMUL, in eighths, is no greater than 8 times SEW, so that the elements are no more than the bits of a register
+abbrev is_short : ℕ → ℕ → Bool
+is_short sew lmul8 = nat_le lmul8 (8 * sew)
+
+all-short : list_all (λ (s : Setting). is_short s.sew s.lmul8) settings ≡ true
+unfolding settings
+all-short = refl
+
+pub vlmax-short : (vt : Vtype) (vlen : ℕ) → is_supported vt ≡ true → vt.vill ≡ false → vlmax vt vlen ≤ vlen
+unfolding vlmax
+vlmax-short vt vlen supported there =
+    let least : vt.lmul8 ≤ 8 * vt.sew = leb-true _ _ (at_supported is_short vt all-short supported) in
+    rw there (div-le_of_le-mul (8 * vt.sew) (mul-le-mul_right vlen least))
+
 -- A group with an EMUL of at least 1 takes no more registers, in proportion to its width, than a group of another width.
 abbrev is_even : (s d sew lmul8 : ℕ) → Bool
 is_even s d sew lmul8 = not (nat_le 8 (lmul8 * s / sew)) || nat_le (count s sew lmul8 * d) (count d sew lmul8 * s)

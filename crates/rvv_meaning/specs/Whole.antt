@@ -80,36 +80,30 @@ module _ (i : VInstr) (c : Cfg) (x : ℕ) (v : List (List ℕ)) where
 
   -- ---- where it writes
 
-  -- the elements of a group, from one on
-  abbrev pub to_group_from : (from : ℕ) → (value : ℕ → ℕ) → Left
-  to_group_from from value = elements record {
+  -- elements of a group of SEW bits, from one on and below another
+  abbrev pub in_group : (from len : ℕ) (masked : Bool) (value : ℕ → ℕ) → Elementwise
+  in_group from len masked value = record {
     vd = i.vd;
     registers = count_at c.vtype (group_place c.vtype.sew);
     width = c.vtype.sew;
     from = from;
-    len = c.vl;
+    len = len;
     vl = c.vl;
-    masked = not i.vm;
+    masked = masked;
     value = λ w e. value e;
     clipped = λ w e. false;
   }
+
+  -- the elements of a group, from one on
+  abbrev pub to_group_from : (from : ℕ) → (value : ℕ → ℕ) → Left
+  to_group_from from value = elements (in_group from c.vl (not i.vm) value)
 
   abbrev pub to_group : (value : ℕ → ℕ) → Left
   to_group value = to_group_from c.vstart value
 
   -- the lowest elements of a group, so many, whatever the mask is
   abbrev pub to_front : (len : ℕ) → (value : ℕ → ℕ) → Left
-  to_front len value = elements record {
-    vd = i.vd;
-    registers = count_at c.vtype (group_place c.vtype.sew);
-    width = c.vtype.sew;
-    from = c.vstart;
-    len = len;
-    vl = c.vl;
-    masked = false;
-    value = λ w e. value e;
-    clipped = λ w e. false;
-  }
+  to_front len value = elements (in_group c.vstart len false value)
 
   -- element 0 of one register of elements of n bits, where the vector length is not 0
   abbrev pub to_first : (n z : ℕ) → Left
