@@ -1,36 +1,19 @@
 -- What legality says of a move: where its destination and its sources lie.
 use Rattle.std.proofs.Common.{◌≡◌, ℕ, ◌+◌, ◌*◌, ◌/◌, ◌<◌, ◌≤◌, false, IsTrue, refl, ap, arith, inl, inr, ⊎_elim}
-use Rattle.std.proofs.lemmas.Bool.{and_parts, leb-true}
 use Rattle.std.proofs.Math.Nat.{mul-le-mul_right}
 use Rattle.element_ops.specs.Elements.{IsSize}
 use Rattle.legal_groups.specs.Facts.{IsElementWidth, registers_for}
 use Rattle.legal_groups.specs.Rules.{Lies, AreApart}
+use Rattle.legal_groups.proofs.Valid.{Held}
 use Rattle.legal_groups.proofs.Widths.{at_width, in_force, vlmax-held_at, vlmax-short}
 use Rattle.rvv_decode.specs.declared.instruction.VInstr.{VInstr}
 use Rattle.vtype_cfg.specs.declared.configuration.Cfg.{Cfg}
 use Rattle.vtype_cfg.specs.Classes.{Place, mask, group, count_at}
-use Rattle.vtype_cfg.specs.Settings.{is_legal_vlen, is_vill_or_supported, is_valid, vlmax}
+use Rattle.vtype_cfg.specs.Settings.{vlmax}
 use Rattle.vtype_cfg.proofs.Lengths.{vlen_from}
 use Rattle.vtype_cfg.proofs.Supported.{vlen_bounded}
 use Rattle.rvv_meaning.specs.Elementwise.{size_of}
 use Rattle.element_moves.specs.Steps.{IsApart, Fits, Reads, ReadsBits, registers}
-
--- ---- configurations
-
--- what holds of a configuration that is valid
-pub record Held (c : Cfg) : Type 0 where
-  pub vlen : IsTrue (is_legal_vlen c.vlen)
-  pub setting : IsTrue (is_vill_or_supported c.vtype)
-  pub length : c.vl ≤ vlmax c.vtype c.vlen
-
-pub held : (c : Cfg) → IsTrue (is_valid c) → Held c
-unfolding is_valid
-held c valid =
-    let a = and_parts _ _ valid in
-    let b = and_parts _ _ a.0 in
-    let d = and_parts _ _ b.0 in
-    let e = and_parts _ _ d.0 in
-    record { vlen = e.0; setting = e.1; length = leb-true _ _ d.1 }
 
 -- ---- widths
 

@@ -6,6 +6,7 @@ use Rattle.std.proofs.lemmas.Bool.{false≢true}
 use Rattle.element_ops.specs.Places.{is_active}
 use Rattle.legal_groups.specs.Rules.{Obeys}
 use Rattle.legal_groups.proofs.Rules.{legal_law}
+use Rattle.legal_groups.proofs.Valid.{Held, held}
 use Rattle.rvv_decode.specs.Ranges.{IsInRange}
 use Rattle.rvv_decode.specs.declared.instruction.VInstr.{VInstr}
 use Rattle.rvv_decode.specs.declared.instruction.Form.{Form}
@@ -22,7 +23,7 @@ use Rattle.rvv_meaning.specs.Elementwise.{Elementwise, registers_after, clips_be
 use Rattle.rvv_meaning.specs.Whole.{Left, elements}
 use Rattle.element_moves.specs.Permutations.{LeavesRegisters, permuted_by, permuted_for, gathered_by, counted, packed}
 use Rattle.element_moves.specs.Steps.{Fits, Reads, ReadsBits, index_size}
-use Rattle.element_moves.proofs.Legal.{Held, held, destination-fits, source-read, bits-read}
+use Rattle.element_moves.proofs.Legal.{destination-fits, source-read, bits-read}
 
 -- ---- what is left
 

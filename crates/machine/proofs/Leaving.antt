@@ -2,8 +2,10 @@
 use Rattle.std.proofs.Common.{◌≡◌, ℕ, Bool, true, false, ◌||◌, List, Option, Some, None, refl, sym, ◌∙◌, ap, ⊎_elim}
 use Rattle.std.specs.Prelude.{is_some}
 use Rattle.std.proofs.lemmas.Bool.{false≢true}
+use Rattle.rvv_decode.specs.declared.instruction.OpiOp.{OpiOp}
+use Rattle.rvv_decode.specs.declared.instruction.OpiOp.TheVariants.{Vrgatherei16}
 use Rattle.rvv_decode.specs.declared.instruction.OpmOp.{OpmOp}
-use Rattle.rvv_decode.specs.declared.instruction.OpmOp.TheVariants.{VmvXS, Vcpop, Vfirst, Vid, Vmand, Vmnand, Vmandn, Vmor, Vmnor, Vmorn, Vmxor, Vmxnor, Vmsbf, Vmsif, Vmsof}
+use Rattle.rvv_decode.specs.declared.instruction.OpmOp.TheVariants.{VmvXS, Viota, Vcompress, Vcpop, Vfirst, Vid, Vmand, Vmnand, Vmandn, Vmor, Vmnor, Vmorn, Vmxor, Vmxnor, Vmsbf, Vmsif, Vmsof}
 use Rattle.rvv_decode.specs.declared.instruction.VInstr.{VInstr}
 use Rattle.rvv_decode.specs.declared.instruction.VOp.{VOp}
 use Rattle.rvv_decode.specs.declared.instruction.VOp.TheVariants.{Opi, Opm, Config, Memory}
@@ -26,6 +28,8 @@ KindOf op (Some leaving) = (i : VInstr) (c : Cfg) (x : ℕ) (v : List (List ℕ)
 opm-kind : (op : OpmOp) → KindOf (Opm op) (whole_for (Opm op))
 unfolding whole_for
 opm-kind VmvXS = λ i c x v. (_, refl)
+opm-kind Viota = λ i c x v. (_, refl)
+opm-kind Vcompress = λ i c x v. (_, refl)
 opm-kind Vid = λ i c x v. (_, refl)
 opm-kind Vmand = λ i c x v. (_, refl)
 opm-kind Vmnand = λ i c x v. (_, refl)
@@ -40,9 +44,14 @@ opm-kind Vmsif = λ i c x v. (_, refl)
 opm-kind Vmsof = λ i c x v. (_, refl)
 opm-kind _ = tt
 
+opi-kind : (op : OpiOp) → KindOf (Opi op) (whole_for (Opi op))
+unfolding whole_for
+opi-kind Vrgatherei16 = λ i c x v. (_, refl)
+opi-kind _ = tt
+
 whole-kind : (op : VOp) → KindOf op (whole_for op)
 unfolding whole_for
-whole-kind (Opi op) = tt
+whole-kind (Opi op) = opi-kind op
 whole-kind (Opm op) = opm-kind op
 whole-kind (Config op) = tt
 whole-kind (Memory op) = tt

@@ -12,8 +12,9 @@ use Rattle.rvv_decode.specs.declared.instruction.VOp.TheVariants.{Opi, Opm}
 use Rattle.rvv_decode.specs.declared.instruction.Form.{Form}
 use Rattle.rvv_decode.specs.declared.instruction.Form.TheVariants.{V, X, I}
 use Rattle.rvv_decode.specs.declared.instruction.OpiOp.{OpiOp}
+use Rattle.rvv_decode.specs.declared.instruction.OpiOp.TheVariants.{Vrgatherei16}
 use Rattle.rvv_decode.specs.declared.instruction.OpmOp.{OpmOp}
-use Rattle.rvv_decode.specs.declared.instruction.OpmOp.TheVariants.{VmvXS, Vcpop, Vfirst, Vid, Vmand, Vmnand, Vmandn, Vmor, Vmnor, Vmorn, Vmxor, Vmxnor, Vmsbf, Vmsif, Vmsof}
+use Rattle.rvv_decode.specs.declared.instruction.OpmOp.TheVariants.{VmvXS, Vcpop, Vfirst, Viota, Vid, Vcompress, Vmand, Vmnand, Vmandn, Vmor, Vmnor, Vmorn, Vmxor, Vmxnor, Vmsbf, Vmsif, Vmsof}
 use Rattle.vtype_cfg.specs.declared.configuration.Cfg.{Cfg}
 use Rattle.vtype_cfg.specs.Classes.{group as group_place, count_at}
 use Rattle.vtype_cfg.specs.Settings.{vlmax}
@@ -256,4 +257,7 @@ whole_for (Opm Vmxnor) = Some (λ i c x v. mask_logic i c x v (λ a b. not (cond
 whole_for (Opm Vmsbf) = Some before_first
 whole_for (Opm Vmsif) = Some up_to_first
 whole_for (Opm Vmsof) = Some only_first
+whole_for (Opi Vrgatherei16) = Some gathered_by_sixteen
+whole_for (Opm Viota) = Some set_below
+whole_for (Opm Vcompress) = Some compressed
 whole_for _ = None

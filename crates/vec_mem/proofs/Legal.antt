@@ -21,6 +21,7 @@ use Rattle.vtype_cfg.proofs.Supported.{at_supported, vlen_bounded}
 use Rattle.legal_groups.specs.Facts.{IsElementWidth, registers_for, SparesMask, FieldGroups, IndexBeside, IndexRoom, WholeRoom, MaskRoom}
 use Rattle.legal_groups.proofs.Accesses.{legal_access_law}
 use Rattle.legal_groups.proofs.Rules.{in_setting}
+use Rattle.legal_groups.proofs.Valid.{held}
 use Rattle.legal_groups.proofs.Widths.{in_force, vlmax-short}
 use Rattle.rvv_meaning.specs.Elementwise.{size_of}
 use Rattle.rvv_meaning.specs.VectorAccesses.{of_elements, of_registers, access_of, shape_of, trims_of, is_store}
@@ -96,21 +97,6 @@ whole-count f n x is =
     same y z k some_y some_z p q = rw (p, q, div-mul-add k z 0 some_z, div-mul-add k y 0 some_y) refl
 
 -- ---- configurations
-
--- what holds of a configuration that is valid
-pub record Held (c : Cfg) : Type 0 where
-  pub vlen : IsTrue (is_legal_vlen c.vlen)
-  pub setting : IsTrue (is_vill_or_supported c.vtype)
-  pub length : c.vl ≤ vlmax c.vtype c.vlen
-
-pub held : (c : Cfg) → IsTrue (is_valid c) → Held c
-unfolding is_valid
-held c valid =
-    let a = and_parts _ _ valid in
-    let b = and_parts _ _ a.0 in
-    let d = and_parts _ _ b.0 in
-    let e = and_parts _ _ d.0 in
-    record { vlen = e.0; setting = e.1; length = leb-true _ _ d.1 }
 
 none-under_vill : (c : Cfg) → c.vtype.vill ≡ true → vlmax c.vtype c.vlen ≡ 0
 unfolding vlmax

@@ -4,7 +4,7 @@ use Rattle.cam_chain.specs.Views.{registers_of}
 use Rattle.rvv_decode.specs.declared.instruction.VOp.TheVariants.{Opm}
 use Rattle.rvv_decode.specs.declared.instruction.OpmOp.TheVariants.{Vcompress, Viota}
 use Rattle.element_moves.specs.Permutations.{counted, packed}
-use Rattle.element_moves.proofs.Legal.{held}
+use Rattle.legal_groups.proofs.Valid.{held}
 use Rattle.element_moves.proofs.Operations.{leaves, gathers, counts, compresses}
 use Rattle.element_moves.proofs.permute.Goals as goal
 
