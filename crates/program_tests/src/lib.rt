@@ -14,6 +14,8 @@ mod kinds;
 #[cfg(test)]
 mod lists;
 #[cfg(test)]
+mod mask_plans;
+#[cfg(test)]
 mod operations;
 #[cfg(test)]
 mod permutations;
