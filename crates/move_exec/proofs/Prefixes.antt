@@ -97,7 +97,10 @@ module _ (how : Reach) (i : VInstr) (c : Cfg) (start : c.vstart ≡ 0) (long : c
         active = λ on m mask.
             let active : bit_in s active_row e ≡ true = sym (here s k col active_row fits inside) ∙ on 0 (omega arith) in
             let within : is_within c.vstart c.vl (not i.vm) (bit_in s 0) (element_number marks_shape 0 k col) ≡ true = sym (windowed.active k col 0 fits inside (omega arith)) ∙ on 0 (omega arith) in
-            let less : element_number marks_shape 0 k col < c.vl = ltb-true (element_number marks_shape 0 k col) c.vl (and_parts _ _ (and_parts _ _ within).0).1 in
+            let number_here : ℕ = element_number marks_shape 0 k col in
+            let bounds : (leb c.vstart number_here && ltb number_here c.vl) ≡ true =
+            (and_parts (leb c.vstart number_here && ltb number_here c.vl) (not (not i.vm) || bit_in s 0 number_here) within).0 in
+            let less : number_here < c.vl = ltb-true number_here c.vl (and_parts (leb c.vstart number_here) (ltb number_here c.vl) bounds).1 in
             let sets : (n : ℕ) → n ≤ e → is_set (i.vs2 + 0) s n ≡ set_in (bit_in s) n = λ n l.
             rw (second, gate s windowed n (omega (arith, less, number)) (omega arith)) refl in
             number-one (element 1 k col (replay ops s) (i.vd + 0)) (prefix_bit how (set_in (bit_in s)) (element_number marks_shape 0 k col))

@@ -3,10 +3,12 @@
 #![tactic(auto)]
 
 mod accesses;
+mod policies;
 mod readers;
 
 pub use accesses::{Access, Offset};
 use guest_mem::Trap;
+pub use policies::{fills_masked, makes_ones};
 pub use readers::{el, mask_bit};
 use rv32_decode::Instr;
 use rvv_decode::VInstr;

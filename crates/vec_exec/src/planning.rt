@@ -61,7 +61,9 @@ const fn is_whole(op: VOp) -> bool
     ensures { result ≡ is_some (whole_for op) }
 {
     match op {
+        VOp::Opi(OpiOp::Vrgatherei16) => true,
         VOp::Opm(OpmOp::VmvXS | OpmOp::Vid) => true,
+        VOp::Opm(OpmOp::Viota | OpmOp::Vcompress) => true,
         VOp::Opm(OpmOp::Vmand | OpmOp::Vmnand | OpmOp::Vmandn) => true,
         VOp::Opm(OpmOp::Vmor | OpmOp::Vmnor | OpmOp::Vmorn) => true,
         VOp::Opm(OpmOp::Vmxor | OpmOp::Vmxnor) => true,
