@@ -3,7 +3,6 @@ pub mod Widths
 pub mod Copied
 pub mod RoundedRange
 pub mod Fits
-pub mod Computed
 pub mod Written
 pub mod Keeping
 pub mod Placed

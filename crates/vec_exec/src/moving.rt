@@ -30,5 +30,5 @@ pub fn permute(i: &VInstr, cfg: &Cfg, chain: &mut Chain)
     ensures columns { chain.new.columns ≡ chain.old.columns }
     ensures counts { chain.new.counts ≡ chain.old.counts }
 {
-    unreachable!()
+    std::process::abort()
 }

@@ -5,8 +5,7 @@ ghost use Rattle.rvv_decode.specs.Ranges.{IsInRange};
 ghost use Rattle.vtype_cfg.specs.Legality.{is_legal};
 ghost use Rattle.vtype_cfg.specs.Settings.{is_valid};
 ghost use Rattle.legal_groups.specs.Facts.{registers_for};
-ghost use Rattle.rvv_meaning.specs.Vectors.{is_built, is_computed};
-ghost use Rattle.rvv_meaning.specs.Whole.{whole_for};
+ghost use Rattle.rvv_meaning.specs.Vectors.{is_computed};
 ghost use Rattle.frame_meaning.specs.Realising.{RealisesInstruction};
 ghost use Rattle.frame_meaning.specs.Shapes.{has_scalar};
 ghost use Rattle.vec_exec.specs.Recipes.{recipe_for};
@@ -51,32 +50,6 @@ fn registers(cfg: &Cfg, width: u8) -> u8
 {
     let eighths = u32::from(cfg.vtype.lmul8) * u32::from(width) / u32::from(cfg.vtype.sew);
     (eighths / u32::from(EIGHTHS)).max(1) as u8
-}
-
-// Whether an instruction is built that reads a whole group or a whole mask.
-#[tactic(auto, unfolding(rvv_meaning::specs::Whole::whole_for))]
-const fn is_whole(op: VOp) -> bool
-    ensures { result ≡ is_some (whole_for op) }
-{
-    matches!(op, VOp::Opm(OpmOp::VmvXS))
-}
-
-// Whether an instruction is built that computes from the vector registers.
-fn computed(op: VOp) -> bool
-    ensures { result ≡ is_computed op }
-{
-    recipe_of(op).is_some() || is_whole(op)
-}
-
-/// Whether an instruction is built: one of configuration, a load, a store, one whose operation has a recipe, or one that reads
-/// whole groups or masks.
-pub fn built(i: &VInstr) -> bool
-    ensures value { result ≡ is_built i.now.op }
-{
-    match i.op {
-        VOp::Config(_) | VOp::Memory(_) => true,
-        VOp::Opi(_) | VOp::Opm(_) => computed(i.op),
-    }
 }
 
 // The operations that put a number into the scalar's row, where the instruction has a scalar.
@@ -301,6 +274,6 @@ pub fn plan(i: &VInstr, cfg: &Cfg, scalar: u32, buf: &mut MicroBuf)
 {
     match recipe_of(i.op) {
         Some(recipe) => emit_program(recipe, i, cfg, scalar, buf),
-        None => unreachable!(),
+        None => std::process::abort(),
     }
 }

@@ -1,14 +1,7 @@
 use Rattle.std.proofs.Common.{◌/◌, ◌∙◌, sym, ap, arith}
-use Rattle.std.specs.Prelude.{is_some}
-use Rattle.std.proofs.lemmas.Bool.{false≢true}
 use Rattle.micro_ir.proofs.Lists.{tally-few}
-use Rattle.vec_exec.proofs.Computed.{recipe-when-planned}
 use Rattle.vec_exec.proofs.Planned.{prog-is, cost-is}
 use Rattle.vec_exec.proofs.planning.plan.Goals as goal
-
-pub unreachable-requires : goal.unreachable-requires
-unreachable-requires c =
-    false≢true (sym (ap is_some c.in-None.is) ∙ (ap is_some c.recipe_of.ensures ∙ recipe-when-planned c.args.i.now c.requires.built c.requires.engine))
 
 pub returns-clause-program : goal.returns-clause-program
 returns-clause-program c =
