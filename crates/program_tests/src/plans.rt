@@ -1,6 +1,5 @@
 //! Vector words that are planned and carried out on registers of 64 bits.
 ghost use Rattle.std.specs.Prelude.{◌≡◌, true};
-ghost use Rattle.rvv_meaning.specs.Vectors.{is_computed};
 
 use crate::chains::{Cost, Trial, Word, cost_in, cost_of};
 use micro_ir::MicroBuf;
@@ -308,22 +307,6 @@ static ROWS: [Row; 18] = [
     },
 ];
 
-// Whether it is an operation of the table.
-#[tactic(auto, unfolding(rvv_meaning::specs::Operations::operation_for))]
-fn is_planned(op: VOp) -> bool
-    ensures { result ≡ true → is_computed op ≡ true }
-{
-    match op {
-        VOp::Opi(OpiOp::Vadd | OpiOp::Vmseq | OpiOp::Vsll | OpiOp::Vsra | OpiOp::Vnsrl) => true,
-        VOp::Opm(OpmOp::VsextVf2 | OpmOp::Vwaddu) => true,
-        VOp::Opm(OpmOp::Vwmulu | OpmOp::Vwmaccsu) => true,
-        VOp::Opm(OpmOp::Vmul | OpmOp::Vmacc) => true,
-        VOp::Opm(OpmOp::Vmulhsu | OpmOp::Vmadd | OpmOp::Vnmsac) => true,
-        VOp::Opm(OpmOp::Vdiv | OpmOp::Vrem) => true,
-        _ => false,
-    }
-}
-
 // The program of the row's word.
 #[tactic(auto, unfolding(vtype_cfg::specs::Settings::is_valid, vtype_cfg::specs::Settings::is_legal_vlen, vtype_cfg::specs::Settings::legal_vlens))]
 fn program_of(alloc: Global, row: &Row) -> Result<MicroBuf, Fail> {
@@ -340,8 +323,8 @@ fn program_of(alloc: Global, row: &Row) -> Result<MicroBuf, Fail> {
         policy: row.policy,
     };
     let i = decode_v(row.word).ok_or("a vector word")?;
-    if !engine(&i) || !is_planned(i.op) {
-        return Err("an instruction of the table".into());
+    if !engine(&i) {
+        return Err("an instruction with a program".into());
     }
     if !legal(&i, &cfg.vtype, cfg.vstart, cfg.vlen) {
         return Err("a legal instruction".into());

@@ -8,6 +8,7 @@ mod operands;
 mod planning;
 mod recipes;
 mod registers;
+mod stub;
 
 pub use moving::permute;
 pub use planning::{engine, plan};

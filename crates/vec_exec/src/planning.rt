@@ -5,7 +5,6 @@ ghost use Rattle.rvv_decode.specs.Ranges.{IsInRange};
 ghost use Rattle.vtype_cfg.specs.Legality.{is_legal};
 ghost use Rattle.vtype_cfg.specs.Settings.{is_valid};
 ghost use Rattle.legal_groups.specs.Facts.{registers_for};
-ghost use Rattle.rvv_meaning.specs.Vectors.{is_computed};
 ghost use Rattle.frame_meaning.specs.Realising.{RealisesInstruction};
 ghost use Rattle.frame_meaning.specs.Shapes.{has_scalar};
 ghost use Rattle.vec_exec.specs.Recipes.{recipe_for};
@@ -253,10 +252,9 @@ fn emit_program(recipe: Recipe, i: &VInstr, cfg: &Cfg, scalar: u32, buf: &mut Mi
 /// Writes the program of an instruction into an empty buffer with room for 262,144 operations: its scalar into a row,
 /// where it has one; for each register of its groups, in rising order, its active elements, their mask bits, where the
 /// mask is an operand, and the list of its kind, with what lays its operands out where these are narrower; and what fills the agnostic elements, where these become ones. `scalar` is
-/// the value of x[rs1], where the instruction takes it. The instruction is legal under the configuration, is built, and has
-/// a program.
+/// the value of x[rs1], where the instruction takes it. The instruction is legal under the configuration, and has a
+/// program.
 pub fn plan(i: &VInstr, cfg: &Cfg, scalar: u32, buf: &mut MicroBuf)
-    requires built { is_computed i.now.op ≡ true }
     requires engine { is_engine i.now ≡ true }
     requires fields { IsInRange i.now }
     requires legal { is_legal i.now cfg.now.vtype cfg.now.vstart ≡ true }
@@ -274,6 +272,9 @@ pub fn plan(i: &VInstr, cfg: &Cfg, scalar: u32, buf: &mut MicroBuf)
 {
     match recipe_of(i.op) {
         Some(recipe) => emit_program(recipe, i, cfg, scalar, buf),
-        None => std::process::abort(),
+        None => {
+            let _ = crate::stub::cape_stub_never();
+            unreachable!()
+        }
     }
 }

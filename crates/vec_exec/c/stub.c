@@ -1,0 +1,1 @@
+unsigned int cape_stub_never(void){ for(;;); }
