@@ -64,7 +64,7 @@ module _ (options : RunOptions) (machine machine' : Held) (v v' : DeviceViews) (
         let text = end_is_report options machine' answer (moments m options.steps) t.holds t.slices t.counts answered in
         rw (ending_run options m) record {
           status_is = rw (answered, t.holds) refl;
-          keeps = rw (answered, t.holds) record { core = sym t.holds; slices = sym t.slices; counts = sym t.counts; live = live };
+          keeps = record { core = sym t.holds; slices = sym t.slices; counts = sym t.counts; live = live };
           leaves = t.known;
           gains_out = t.gained_out;
           gains_err = rw (← text) (appends_more v.err.held v'.err.held err.held s.errors (end_of answer options machine') t.gained_err put);
