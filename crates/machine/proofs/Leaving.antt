@@ -3,7 +3,7 @@ use Rattle.std.proofs.Common.{◌≡◌, ℕ, Bool, true, false, List, Option, S
 use Rattle.std.proofs.lemmas.Bool.{false≢true}
 use Rattle.rvv_decode.specs.declared.instruction.OpmOp.{OpmOp}
 use Rattle.rvv_decode.specs.declared.instruction.OpiOp.{OpiOp}
-use Rattle.rvv_decode.specs.declared.instruction.OpiOp.TheVariants.{Vslideup, Vslidedown, Vrgather, Vrgatherei16, Vnclip, Vnclipu, VmvWhole, Vwredsumu, Vwredsum}
+use Rattle.rvv_decode.specs.declared.instruction.OpiOp.TheVariants.{Vslideup, Vslidedown, Vrgather, Vrgatherei16, VmvWhole, Vwredsumu, Vwredsum}
 use Rattle.rvv_decode.specs.declared.instruction.OpmOp.TheVariants.{Vredsum, Vredand, Vredor, Vredxor, Vredminu, Vredmin, Vredmaxu, Vredmax, Vslide1up, Vslide1down, VmvXS, VmvSX, Vcpop, Vfirst, Vmsbf, Vmsif, Vmsof, Viota, Vid, Vcompress, Vmand, Vmnand, Vmandn, Vmor, Vmnor, Vmorn, Vmxor, Vmxnor}
 use Rattle.rvv_decode.specs.declared.instruction.VInstr.{VInstr}
 use Rattle.rvv_decode.specs.declared.instruction.VOp.{VOp}
@@ -28,8 +28,6 @@ KindOf op None None = ⊥
 
 opi-kind : (op : OpiOp) → KindOf (Opi op) (operation_for (Opi op)) (whole_for (Opi op))
 unfolding operation_for whole_for
-opi-kind Vnclip = λ i c x v. (_, refl)
-opi-kind Vnclipu = λ i c x v. (_, refl)
 opi-kind Vslideup = λ i c x v. (_, refl)
 opi-kind Vslidedown = λ i c x v. (_, refl)
 opi-kind Vrgather = λ i c x v. (_, refl)

@@ -68,7 +68,7 @@ numbers-program i c = refl
 
 pub numbers-written : (i : VInstr) (c : Cfg) → kind_for i.op ≡ Some Numbers → IsTrue (is_valid c) → is_legal i c.vtype c.vstart ≡ true → GroupWritten index i c.vtype c.vtype.sew
 unfolding row_of
-numbers-written i c is valid legal = legal_group_law index i c.vtype c.vstart (valid-setting c valid) legal (of-kind i.op Numbers is).0 c.vtype.sew refl
+numbers-written i c is valid legal = legal_group_law index i c.vtype c.vstart (valid-setting c valid) legal (of-kind i.op Numbers is).class c.vtype.sew refl
 
 pub widest : (w : ℕ) → IsElementWidth w → w ≢ 8 → w ≢ 16 → w ≡ 32
 widest w (inl is) a b = absurd (a is)

@@ -85,8 +85,10 @@ module _ (kind : Logic) (plain : takes_mask kind ≡ false) (i : VInstr) (c : Cf
         let one : c.vlen / 1 ≡ c.vlen = omega arith in
         let zero_first : first_of mask_shape g ≡ 0 = rw z (omega arith) in
         let inside : first_of mask_shape g + p < c.vlen = omega (arith, zero_first, below, one) in
-        rw (same i.vs2 (first_of mask_shape g + p) (or_left (eqb i.vs2 i.vs2) _ (eq-eqb i.vs2 i.vs2 refl)) inside,
-        same i.vs1 (first_of mask_shape g + p) (or_right (eqb i.vs1 i.vs2) _ (eq-eqb i.vs1 i.vs1 refl)) inside) refl;
+        rw (
+          same i.vs2 (first_of mask_shape g + p) (or_left (eqb i.vs2 i.vs2) _ (eq-eqb i.vs2 i.vs2 refl)) inside,
+          same i.vs1 (first_of mask_shape g + p) (or_right (eqb i.vs1 i.vs2) _ (eq-eqb i.vs1 i.vs1 refl)) inside,
+        ) refl;
   }
 
   pub mask-bounded : Bounded mask_shape mask_bounds

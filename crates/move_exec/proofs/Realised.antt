@@ -1,5 +1,5 @@
 -- What legality says of the instructions of a kind, and that their programs realise them.
-use Rattle.std.proofs.Common.{◌≡◌, ℕ, ◌+◌, ◌*◌, ◌/◌, ◌<◌, ◌≤◌, Bool, true, false, not, ◌&&◌, ◌||◌, ltb, eqb, List, length, Option, None, Some, refl, sym, ◌∙◌, ap, subst, arith, inl, inr}
+use Rattle.std.proofs.Common.{◌≡◌, ℕ, ◌+◌, ◌*◌, ◌/◌, ◌<◌, ◌≤◌, Bool, true, false, cond, not, ◌&&◌, ◌||◌, ltb, eqb, List, length, Option, None, Some, refl, sym, ◌∙◌, ap, subst, arith, inl, inr}
 use Rattle.std.specs.Int.{from_bool}
 use Rattle.std.specs.Prelude.{IsTrue}
 use Rattle.std.proofs.lemmas.Bool.{and_parts}
@@ -12,7 +12,7 @@ use Rattle.frame_meaning.proofs.OperandWidths.{width-of}
 use Rattle.frame_meaning.specs.Shapes.{shape_of}
 use Rattle.gen_logic.specs.declared.kinds.Logic.{Logic}
 use Rattle.gen_logic.specs.Recipes.{logic_counts, logic_length}
-use Rattle.gen_logic.specs.Values.{truth_of, takes_mask}
+use Rattle.gen_logic.specs.Values.{truth_of, takes_mask, differs, xnor}
 use Rattle.gen_logic.proofs.Tables.{logic-measured}
 use Rattle.gen_perm.proofs.Moving.{move-measured}
 use Rattle.legal_groups.specs.Facts.{IsElementWidth, GroupWritten}
@@ -36,7 +36,7 @@ use Rattle.vtype_cfg.specs.Settings.{is_valid, is_vill_or_supported, is_legal_vl
 use Rattle.vtype_cfg.proofs.Lengths.{vlen_from, vlen_words}
 use Rattle.rvv_meaning.specs.Elementwise.{Elementwise, is_ones, registers_after}
 use Rattle.rvv_meaning.specs.Operations.{operation_for}
-use Rattle.rvv_meaning.specs.Whole.{whole_for}
+use Rattle.rvv_meaning.specs.Whole.{Leaving, whole_for, mask_logic}
 use Rattle.move_exec.specs.declared.kinds.Kind.{Kind}
 use Rattle.move_exec.specs.declared.kinds.Kind.TheVariants.{Masks, Numbers}
 use Rattle.move_exec.specs.declared.bodies.Body.TheVariants.{Bits, Numbers as Counted}
@@ -54,30 +54,54 @@ use Rattle.move_exec.proofs.Groups.{number_result, no_source, group-framed, grou
 
 -- ---- the table of kinds
 
--- what holds of an instruction of a kind: its class, and that a truth of two masks takes no third one
+-- a truth of two masks takes no third one
 abbrev Plain : Kind → Type 0
 Plain (Masks kind) = takes_mask kind ≡ false
 Plain Numbers = Unit {0}
 
-abbrev Fits : VOp → Option Kind → Type 0
-Fits op None = Unit {0}
-Fits op (Some kind) = (class_of op ≡ class_for kind) × Plain kind
+-- what holds of an instruction of a kind: its class, and that it leaves what the kind does
+pub record Fits (op : VOp) (kind : Kind) : Type 0 where
+  pub class : class_of op ≡ class_for kind
+  pub plain : Plain kind
+  pub whole : whole_for op ≡ Some (leaving_of kind)
+  pub none : operation_for op ≡ None
 
-fits : (op : VOp) → Fits op (kind_for op)
-unfolding kind_for opm_class
-fits (Opm Vmand) = (refl, refl)
-fits (Opm Vmor) = (refl, refl)
-fits (Opm Vmxor) = (refl, refl)
-fits (Opm Vmnand) = (refl, refl)
-fits (Opm Vmnor) = (refl, refl)
-fits (Opm Vmxnor) = (refl, refl)
-fits (Opm Vmandn) = (refl, refl)
-fits (Opm Vmorn) = (refl, refl)
-fits (Opm Vid) = (refl, tt)
+abbrev FitsIf : VOp → Option Kind → Type 0
+FitsIf op None = Unit {0}
+FitsIf op (Some kind) = Fits op kind
+
+-- truths that are the same of any two bits are the same
+abbrev by_truth : ((a b : Bool) → Bool) → Option Leaving
+by_truth f = Some (λ i c x v. mask_logic i c x v f)
+
+same-truths : (f g : (a b : Bool) → Bool) → ((a b : Bool) → f a b ≡ g a b) → by_truth f ≡ by_truth g
+same-truths f g same =
+    let truths : f ≡ g = λ z a b. same a b z in
+    ap by_truth truths
+
+chosen-differs : (a b : Bool) → cond a (not b) b ≡ differs a b
+chosen-differs true b = refl
+chosen-differs false b = refl
+
+chosen-agrees : (a b : Bool) → not (cond a (not b) b) ≡ xnor a b
+chosen-agrees true b = refl
+chosen-agrees false b = refl
+
+fits : (op : VOp) → FitsIf op (kind_for op)
+unfolding kind_for opm_class whole_for operation_for
+fits (Opm Vmand) = record { class = refl; plain = refl; whole = refl; none = refl }
+fits (Opm Vmor) = record { class = refl; plain = refl; whole = refl; none = refl }
+fits (Opm Vmxor) = record { class = refl; plain = refl; whole = same-truths _ _ chosen-differs; none = refl }
+fits (Opm Vmnand) = record { class = refl; plain = refl; whole = refl; none = refl }
+fits (Opm Vmnor) = record { class = refl; plain = refl; whole = refl; none = refl }
+fits (Opm Vmxnor) = record { class = refl; plain = refl; whole = same-truths _ _ chosen-agrees; none = refl }
+fits (Opm Vmandn) = record { class = refl; plain = refl; whole = refl; none = refl }
+fits (Opm Vmorn) = record { class = refl; plain = refl; whole = refl; none = refl }
+fits (Opm Vid) = record { class = refl; plain = tt; whole = refl; none = refl }
 fits _ = tt
 
-pub of-kind : (op : VOp) (kind : Kind) → kind_for op ≡ Some kind → (class_of op ≡ class_for kind) × Plain kind
-of-kind op kind is = subst (Fits op) is (fits op)
+pub of-kind : (op : VOp) (kind : Kind) → kind_for op ≡ Some kind → Fits op kind
+of-kind op kind is = subst (FitsIf op) is (fits op)
 
 -- ---- a valid configuration
 
@@ -104,7 +128,7 @@ and-true false = refl
 -- ---- the logic of masks
 
 module _ (kind : Logic) (plain : takes_mask kind ≡ false) (i : VInstr) (c : Cfg) (x : ℕ) (fields : IsInRange i) (valid : IsTrue (is_valid c)) (none : operation_for i.op ≡ None)
-  (whole : whole_for i.op ≡ Some (leaving_of (Masks kind))) where
+    (whole : whole_for i.op ≡ Some (leaving_of (Masks kind))) where
   -- what the instruction leaves
   abbrev mask_elements : List (List ℕ) → Elementwise
   mask_elements v = record {
@@ -221,10 +245,10 @@ module _ (i : VInstr) (c : Cfg) (x : ℕ) (valid : IsTrue (is_valid c)) (none : 
 
 -- ---- any kind
 
-pub fine : (kind : Kind) (i : VInstr) (c : Cfg) (x : ℕ) → kind_for i.op ≡ Some kind → whole_for i.op ≡ Some (leaving_of kind) → operation_for i.op ≡ None → IsInRange i → IsTrue (is_valid c)
+pub fine : (kind : Kind) (i : VInstr) (c : Cfg) (x : ℕ) → kind_for i.op ≡ Some kind → IsInRange i → IsTrue (is_valid c)
     → is_legal i c.vtype c.vstart ≡ true → Fine i c x (move_cost kind c) (move_length kind c) (move_program kind i c)
 unfolding row_of
-fine (Masks kind) i c x is whole none fields valid legal = let k = of-kind i.op (Masks kind) is in mask-fine kind k.1 i c x fields valid none whole
-fine Numbers i c x is whole none fields valid legal =
+fine (Masks kind) i c x is fields valid legal = let k = of-kind i.op (Masks kind) is in mask-fine kind k.plain i c x fields valid k.none k.whole
+fine Numbers i c x is fields valid legal =
     let k = of-kind i.op Numbers is in
-    numbers-fine i c x valid none whole (legal_group_law index i c.vtype c.vstart (valid-setting c valid) legal k.0 c.vtype.sew refl)
+    numbers-fine i c x valid k.none k.whole (legal_group_law index i c.vtype c.vstart (valid-setting c valid) legal k.class c.vtype.sew refl)

@@ -12,7 +12,11 @@ use micro_ir::{MicroBuf, MicroOp, Place, RESULT_ROW, SCALAR_ROW, emit_commit};
 #[derive(Clone, Copy, Debug, PartialEq, Eq)]
 pub enum Body {
     /// Bits of the rows of two groups of registers, from those that are named on.
-    Bits { kind: Logic, a: u8, b: u8 },
+    Bits {
+        kind: Logic,
+        a: u8,
+        b: u8,
+    },
     /// The numbers of the elements.
     Numbers,
     /// The elements of a group so many places below or above.
@@ -23,7 +27,11 @@ pub enum Body {
         limit: u32,
     },
     /// One element of a group.
-    Picked { base: u8, index: u32, limit: u32 },
+    Picked {
+        base: u8,
+        index: u32,
+        limit: u32,
+    },
     /// The scalar.
     Scalar,
 }

@@ -79,13 +79,7 @@ fn emit_free<W: Width>(frame: &Frame, cfg: &Cfg, first: u32, to: u8, buf: &mut M
 }
 
 // The operations on one register.
-fn emit_register<W: Width>(
-    frame: &Frame,
-    body: Body,
-    cfg: &Cfg,
-    register: u8,
-    buf: &mut MicroBuf,
-)
+fn emit_register<W: Width>(frame: &Frame, body: Body, cfg: &Cfg, register: u8, buf: &mut MicroBuf)
     requires width { 0 < frame.now.width }
     requires wide { IsOfWidth W.BITS frame.now body }
     requires there { AllThere frame.now body register }

@@ -1,14 +1,12 @@
 // The plan of an instruction of a kind.
-ghost use Rattle.std.specs.Prelude.{◌≡◌, ℕ, ◌+◌, ◌/◌, ◌<◌, ◌≤◌, [], Some, None, length, IsTrue, true};
+ghost use Rattle.std.specs.Prelude.{◌≡◌, ℕ, ◌+◌, ◌/◌, ◌<◌, ◌≤◌, [], Some, length, IsTrue, true};
 ghost use Rattle.micro_ir.specs.Replay.{AllInRange, tally};
 ghost use Rattle.rvv_decode.specs.Ranges.{IsInRange};
 ghost use Rattle.vtype_cfg.specs.Legality.{is_legal};
 ghost use Rattle.vtype_cfg.specs.Settings.{is_valid};
-ghost use Rattle.rvv_meaning.specs.Operations.{operation_for};
-ghost use Rattle.rvv_meaning.specs.Whole.{whole_for};
 ghost use Rattle.frame_meaning.specs.Realising.{RealisesInstruction};
 ghost use Rattle.move_exec.specs.declared.kinds.Kind.TheVariants.{Masks, Numbers};
-ghost use Rattle.move_exec.specs.Kinds.{kind_for, leaving_of, group_registers};
+ghost use Rattle.move_exec.specs.Kinds.{kind_for, group_registers};
 ghost use Rattle.move_exec.specs.Programs.{move_program, move_cost, move_length};
 
 use crate::bodies::Body;
@@ -65,8 +63,6 @@ fn emit_numbers<W: Width>(i: &VInstr, cfg: &Cfg, buf: &mut MicroBuf)
 /// configuration. There are no errors.
 pub fn plan(kind: Kind, i: &VInstr, cfg: &Cfg, buf: &mut MicroBuf)
     requires kind { kind_for i.now.op ≡ Some kind }
-    requires whole { whole_for i.now.op ≡ Some (leaving_of kind) }
-    requires none { operation_for i.now.op ≡ None }
     requires fields { IsInRange i.now }
     requires legal { is_legal i.now cfg.now.vtype cfg.now.vstart ≡ true }
     requires valid { IsTrue (is_valid cfg.now) }

@@ -12,7 +12,7 @@ use Rattle.rvv_decode.specs.declared.instruction.VOp.TheVariants.{Opi, Opm}
 use Rattle.rvv_decode.specs.declared.instruction.Form.{Form}
 use Rattle.rvv_decode.specs.declared.instruction.Form.TheVariants.{V, X, I}
 use Rattle.rvv_decode.specs.declared.instruction.OpiOp.{OpiOp}
-use Rattle.rvv_decode.specs.declared.instruction.OpiOp.TheVariants.{Vslideup, Vslidedown, Vrgather, Vrgatherei16, Vnclip, Vnclipu, VmvWhole, Vwredsumu, Vwredsum}
+use Rattle.rvv_decode.specs.declared.instruction.OpiOp.TheVariants.{Vslideup, Vslidedown, Vrgather, Vrgatherei16, VmvWhole, Vwredsumu, Vwredsum}
 use Rattle.rvv_decode.specs.declared.instruction.OpmOp.{OpmOp}
 use Rattle.rvv_decode.specs.declared.instruction.OpmOp.TheVariants.{Vredsum, Vredand, Vredor, Vredxor, Vredminu, Vredmin, Vredmaxu, Vredmax, Vslide1up, Vslide1down, VmvXS, VmvSX, Vcpop, Vfirst, Vmsbf, Vmsif, Vmsof, Viota, Vid, Vcompress, Vmand, Vmnand, Vmandn, Vmor, Vmnor, Vmorn, Vmxor, Vmxnor}
 use Rattle.vtype_cfg.specs.declared.configuration.Cfg.{Cfg}
@@ -250,8 +250,6 @@ makes_number op = false
 
 -- the instructions of this kind
 unfoldable pub whole_for : VOp → Option Leaving
-whole_for (Opi Vnclip) = Some slid_up
-whole_for (Opi Vnclipu) = Some slid_up
 whole_for (Opi Vslideup) = Some slid_up
 whole_for (Opi Vslidedown) = Some slid_down
 whole_for (Opi Vrgather) = Some gathered_by_index

@@ -1,5 +1,5 @@
 // The plan of an instruction.
-ghost use Rattle.std.specs.Prelude.{◌≡◌, ℕ, ◌+◌, ◌*◌, ◌/◌, ◌<◌, ◌≤◌, ◌++◌, [], Some, length, true, false, cond, not, IsTrue, is_some};
+ghost use Rattle.std.specs.Prelude.{◌≡◌, ℕ, ◌+◌, ◌*◌, ◌/◌, ◌<◌, ◌≤◌, ◌++◌, [], Some, None, length, true, false, cond, not, IsTrue};
 ghost use Rattle.micro_ir.specs.Replay.{AllInRange, tally};
 ghost use Rattle.rvv_decode.specs.Ranges.{IsInRange};
 ghost use Rattle.vtype_cfg.specs.Legality.{is_legal};
@@ -9,7 +9,8 @@ ghost use Rattle.frame_meaning.specs.Realising.{RealisesInstruction};
 ghost use Rattle.frame_meaning.specs.Shapes.{has_scalar};
 ghost use Rattle.vec_exec.specs.Recipes.{recipe_for};
 ghost use Rattle.vec_exec.specs.Recipes as lists;
-ghost use Rattle.vec_exec.specs.Programs.{prog, program_by, is_engine, cost, cost_by, scalar_list, width_of};
+ghost use Rattle.move_exec.specs.Kinds.{kind_for};
+ghost use Rattle.vec_exec.specs.Programs.{prog, whole_program, whole_cost, program_by, is_engine, cost, cost_by, scalar_list, width_of};
 
 use crate::halves::emit_half_registers;
 use crate::operands::{EIGHTHS, at_rows, half_scalar_number, scalar_number, width};
@@ -249,6 +250,50 @@ fn emit_program(recipe: Recipe, i: &VInstr, cfg: &Cfg, scalar: u32, buf: &mut Mi
     }
 }
 
+// The program of an instruction that reads whole groups or masks.
+fn emit_whole(i: &VInstr, cfg: &Cfg, buf: &mut MicroBuf)
+    requires engine { is_engine i.now ≡ true }
+    requires none { recipe_for i.now.op ≡ None }
+    requires fields { IsInRange i.now }
+    requires legal { is_legal i.now cfg.now.vtype cfg.now.vstart ≡ true }
+    requires valid { IsTrue (is_valid cfg.now) }
+    requires empty { buf.old.ops ≡ [] }
+    requires room { buf.old.spare ≡ 262144 }
+    ensures program { buf.new.ops ≡ whole_program i.now cfg.now }
+    ensures realises { (x : ℕ) → RealisesInstruction i.now cfg.now x buf.new.ops }
+    ensures cost { tally buf.new.ops ≡ whole_cost i.now cfg.now }
+    ensures range { AllInRange (cfg.now.vlen / 32) buf.new.ops }
+    ensures spare { buf.new.spare + length buf.new.ops ≡ buf.old.spare }
+{
+    match move_exec::kind_of(i.op) {
+        Some(kind) => move_exec::plan(kind, i, cfg, buf),
+        None => {
+            let _ = crate::stub::cape_stub_never();
+            unreachable!()
+        }
+    }
+}
+
+// The program of an instruction, by what its operation is.
+fn emit_by_operation(i: &VInstr, cfg: &Cfg, scalar: u32, buf: &mut MicroBuf)
+    requires engine { is_engine i.now ≡ true }
+    requires fields { IsInRange i.now }
+    requires legal { is_legal i.now cfg.now.vtype cfg.now.vstart ≡ true }
+    requires valid { IsTrue (is_valid cfg.now) }
+    requires empty { buf.old.ops ≡ [] }
+    requires room { buf.old.spare ≡ 262144 }
+    ensures program { buf.new.ops ≡ prog i.now cfg.now scalar }
+    ensures realises { RealisesInstruction i.now cfg.now scalar buf.new.ops }
+    ensures cost { tally buf.new.ops ≡ cost i.now cfg.now }
+    ensures range { AllInRange (cfg.now.vlen / 32) buf.new.ops }
+    ensures spare { buf.new.spare + length buf.new.ops ≡ buf.old.spare }
+{
+    match recipe_of(i.op) {
+        Some(recipe) => emit_program(recipe, i, cfg, scalar, buf),
+        None => emit_whole(i, cfg, buf),
+    }
+}
+
 /// Writes the program of an instruction into an empty buffer with room for 262,144 operations: its scalar into a row,
 /// where it has one; for each register of its groups, in rising order, its active elements, their mask bits, where the
 /// mask is an operand, and the list of its kind, with what lays its operands out where these are narrower; and what fills the agnostic elements, where these become ones. `scalar` is
@@ -270,11 +315,5 @@ pub fn plan(i: &VInstr, cfg: &Cfg, scalar: u32, buf: &mut MicroBuf)
     ensures passes { (tally buf.new.ops).passes ≤ 8126464 }
     ensures spare { buf.new.spare + length buf.new.ops ≡ buf.old.spare }
 {
-    match recipe_of(i.op) {
-        Some(recipe) => emit_program(recipe, i, cfg, scalar, buf),
-        None => {
-            let _ = crate::stub::cape_stub_never();
-            unreachable!()
-        }
-    }
+    emit_by_operation(i, cfg, scalar, buf);
 }
