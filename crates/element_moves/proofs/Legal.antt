@@ -54,7 +54,7 @@ module _ (i : VInstr) (c : Cfg) (n : ℕ) (valid : Held c) (words : c.vlen ≡ 3
       let s = sized n w sew in
       let g = registers_for c.vtype w in
       let lies = lie w sew in
-      let short = vlmax-short c.vtype c.vlen (in_force c.vtype valid.setting there) there in
+      let short = vlmax-short c.vtype c.vlen there there in
       let length = valid.length in
       let bytes : g * (c.vlen / w * (w / 8)) ≡ g * size_of c = ap (λ (z : ℕ). g * z) (filled w sew) in
       record {
