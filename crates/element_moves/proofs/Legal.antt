@@ -1,5 +1,5 @@
 -- What legality says of a move: where its destination and its sources lie.
-use Rattle.std.proofs.Common.{◌≡◌, ℕ, ◌+◌, ◌*◌, ◌/◌, ◌<◌, ◌≤◌, false, IsTrue, refl, ap, arith, inl, inr, ⊎_elim}
+use Rattle.std.proofs.Common.{◌≡◌, ℕ, ◌+◌, ◌*◌, ◌/◌, ◌<◌, ◌≤◌, false, refl, ap, arith, inl, inr, ⊎_elim}
 use Rattle.std.proofs.Math.Nat.{mul-le-mul_right}
 use Rattle.element_ops.specs.Elements.{IsSize}
 use Rattle.legal_groups.specs.Facts.{IsElementWidth, registers_for}

@@ -1,4 +1,4 @@
-use Rattle.std.proofs.Common.{◌≡◌, ◌∙◌, sym}
+use Rattle.std.proofs.Common.{◌∙◌, sym}
 use Rattle.vec_exec.proofs.Planned.{prog-is, cost-is, whole-prog, whole-costs}
 use Rattle.vec_exec.proofs.planning.emit_by_operation.Goals as goal
 

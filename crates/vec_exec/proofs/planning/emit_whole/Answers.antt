@@ -1,4 +1,4 @@
-use Rattle.std.proofs.Common.{◌≡◌, ◌∙◌, refl, sym}
+use Rattle.std.proofs.Common.{◌∙◌, refl, sym}
 use Rattle.vec_exec.proofs.Computed.{whole-when-planned}
 use Rattle.vec_exec.proofs.planning.emit_whole.Goals as goal
 
