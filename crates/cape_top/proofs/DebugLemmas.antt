@@ -5,6 +5,8 @@ use Rattle.cape_io.specs.Devices.{KnownFile, Unknown, Absent, Present, Rose}
 use Rattle.cape_io.specs.declared.devices.Files.{Ghosts as FilesGhosts}
 use Rattle.cape_io.specs.Views.{Devices, DeviceViews, SourceView}
 use Rattle.command_words.specs.declared.words.DebugOptions.{DebugOptions}
+use Rattle.debug_commands.specs.declared.performing.SessionFault.{SessionFault}
+use Rattle.debug_commands.specs.declared.performing.SessionFault.TheVariants.{ReadFault as CannotRead, WriteFault as CannotWrite, NoMemory as LacksMemory}
 use Rattle.debug_core.specs.Sessions.{Answers, AnswersInPart}
 use Rattle.elf_load.specs.declared.faults.LoadFault.{LoadFault}
 use Rattle.elf_load.specs.declared.loaded.Loaded.{Loaded}
@@ -15,7 +17,7 @@ use Rattle.rvv_meaning.specs.States.{State}
 use Rattle.cape_top.specs.declared.ending.Status.{Status}
 use Rattle.cape_top.specs.declared.ending.Status.TheVariants.{Done, Refused, ReadFault, WriteFault, NoMemory}
 use Rattle.cape_top.specs.Calls.{Call, FailedOn, WritesNothing, files_call}
-use Rattle.cape_top.specs.Debugging.{DebugEnds, FileFails, ImageDebugEnds, IsAnswered, IsAnsweredInPart, IsCut, IsSound, LoadedSession, SessionEnds, SoundDebugEnds, debug_start, loaded_moment}
+use Rattle.cape_top.specs.Debugging.{DebugEnds, FileFails, ImageDebugEnds, IsAnswered, IsAnsweredInPart, IsCut, IsSound, LoadedSession, SessionEnds, SoundDebugEnds, debug_start, loaded_moment, status_of_session}
 use Rattle.cape_top.specs.Endings.{Ending, Ends, absent_ending, refused_ending}
 use Rattle.cape_top.specs.Reading.{IsFaultOf, IsLoadedFrom, IsLoadedOf, IsReadOf, input_limit}
 use Rattle.cape_top.specs.Statuses.{IsEnded, IsFault}
@@ -51,6 +53,12 @@ module _ (m : Moment) (machine machine' : Held) (v v' : SourceView) (io : Device
     -- a device failed, or memory was lacking
     pub session_cut : (s : Status) → IsCut s → AnswersInPart v.left machine io → SessionEnds m (with_commands v v' io) s
     session_cut s is some = record { ended = λ ended. absurd (cut_not_ended s is ended); cut = λ cut. answered_in_part some v.left refl }
+
+-- a session that ends early is cut off
+pub cut_of : (f : SessionFault) → IsCut (status_of_session f)
+cut_of CannotRead = inl tt
+cut_of CannotWrite = inl tt
+cut_of LacksMemory = inr refl
 
 -- nothing was written
 pub session_none : (m : Moment) (d : Devices) (s : Status) → IsCut s → WritesNothing d → SessionEnds m d s

@@ -87,7 +87,7 @@ pub(crate) fn debug<F: Files, S: Source, O: Sink, E: Sink>(
     let given = match read_input(alloc, files, options.input) {
         Ok(given) => given,
         Err(Stop::ReadFault) => return Status::ReadFault,
-        Err(Stop::NoMemory | Stop::Refused(_)) => return Status::NoMemory,
+        Err(_) => return Status::NoMemory,
     };
     hold(alloc, loaded, given.as_slice(), options, input, out, err)
 }

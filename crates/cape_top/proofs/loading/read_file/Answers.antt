@@ -2,8 +2,8 @@ use Rattle.std.proofs.Common.{refl, arith, ◌∙◌}
 use Rattle.cape_top.proofs.ReadLemmas.{no_error, read_full, read_all, read_of}
 use Rattle.cape_top.proofs.loading.read_file.Goals as goal
 
-pub returns-then-len-eq-limit-clause-read : goal.returns-then-len-eq-limit-clause-read
-returns-then-len-eq-limit-clause-read g c = read_of c.args.limit _ _ (λ absent. no_error c.open.result c.if-is_err.ensures.value (c.open.ensures.missing absent)) (λ bytes told.
+pub returns-then-len-limit-clause-read : goal.returns-then-len-limit-clause-read
+returns-then-len-limit-clause-read g c = read_of c.args.limit _ _ (λ absent. no_error c.open.result c.if-is_err.ensures.value (c.open.ensures.missing absent)) (λ bytes told.
     let w = c.loop-turn.invariant.moved bytes told in
     read_full c.args.limit bytes c.loop-turn.bytes.items w.0 w.2 (omega arith))
 
