@@ -18,6 +18,6 @@ for source in *.c; do
     fi
     "$clang" "${common[@]}" -march="$march" "${vectors[@]}" -o "$into/$name" start.S "$source"
 done
-for name in memcpy strlen; do
+for name in cipher memcpy strlen; do
     "$clang" "${common[@]}" -march=rv32im_zve32x -o "$into/$name" "$name.S"
 done

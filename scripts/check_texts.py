@@ -4,7 +4,8 @@
 - a source or definition file has at most 500 lines;
 - a clause of a contract has at most 160 characters, spaces run together;
 - crates.txt, docs/ARCHITECTURE.md and docs/PROOFS.md list the same crates, in one order, each with its folder;
-- no text cites what is not in the repository: papers, requests or definitions by a number.
+- no text cites what is not in the repository: papers, requests or definitions by a number;
+- the sessions that docs/DEBUGGING.md shows are cases of crates/cape_cases, with these answers and the images of these files.
 
     python3 -B scripts/check_texts.py
 """
@@ -19,6 +20,9 @@ CITED = re.compile(
     r"\b(T[1-5]\.[0-9]|D([1-9]|1[0-9]|2[0-5])\b|R([1-9]|1[0-9]|20)\b|W([1-79]|1[0-5])\b"
     r"|document 0[1-4]|0[1-4] (section|part)|ERRATA|papers?\b)|\.\./shared"
 )
+# The document whose sessions are cases, and the files whose bytes the images of cases are.
+SESSIONS = "docs/DEBUGGING.md"
+CASE_IMAGES = {"a session of the debugger watches a sum of bytes": "examples/images/cipher"}
 CLAUSE = re.compile(r"^[ \t]*(requires|ensures)\*?(?:[ \t]+(\w+))?[ \t]*\{", re.MULTILINE)
 
 
@@ -98,8 +102,46 @@ def cited():
                 yield f"{name(path)}:{number}: cites {CITED.search(line)[0]}"
 
 
+def cases_in(path):
+    """The lines of each case, or of each report, by the name of the case."""
+    blocks = path.read_text().split("\n\n")
+    lines = [[line for line in block.splitlines() if not line.startswith("#")] for block in blocks]
+    return {block[0].partition(" ")[2]: block[1:] for block in lines if block and block[0].startswith("case ")}
+
+
+def after(head, lines):
+    return [line[len(head):] for line in lines if line.startswith(head)]
+
+
+def shown_sessions():
+    """The name of each session of the document, what is typed in it, and what is answered."""
+    text = (TOP / SESSIONS).read_text()
+    for part in text.split("<!-- session: ")[1:]:
+        name, _, rest = part.partition(" -->")
+        lines = after("    ", rest.split("\n## ")[0].splitlines())
+        yield name, after("> ", lines), [line for line in lines if not line.startswith("> ")]
+
+
+def image_of(lines):
+    """The bytes of the `image` lines of a case."""
+    parts = [part.partition("*") for line in after("image ", lines) for part in line.split()]
+    return b"".join(int(word, 16).to_bytes(4, "little") * int(times or "1") for word, _, times in parts)
+
+
+def unlike_sessions():
+    asked, told = (cases_in(TOP / "crates/cape_cases" / name) for name in ("stdin", "stdout"))
+    for name, typed, answers in shown_sessions():
+        if typed != after("type ", asked.get(name, [])):
+            yield f"{SESSIONS}: what is typed is not that of the case '{name}'"
+        if answers != [line.removesuffix("\\n") for line in after("out ", told.get(name, []))]:
+            yield f"{SESSIONS}: the answers are not those of the case '{name}'"
+    for name, path in CASE_IMAGES.items():
+        if image_of(asked.get(name, [])) != (TOP / path).read_bytes():
+            yield f"crates/cape_cases/stdin: the image of the case '{name}' is not {path}"
+
+
 def main():
-    faults = [*long_files(), *long_clauses(), *unlike_lists(), *cited()]
+    faults = [*long_files(), *long_clauses(), *unlike_lists(), *cited(), *unlike_sessions()]
     for fault in faults:
         print(fault)
     return 1 if faults else 0

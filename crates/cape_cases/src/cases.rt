@@ -16,10 +16,13 @@ const COMMENT: char = '#';
 // What begins a line of a report that tells one of the error output.
 const ERROR_OUTPUT: &str = "err ";
 
+// The end of a line.
+const NEWLINE: u8 = b'\n';
+
 // The report of a case of no form.
 const NO_FORM: &str = "form\n";
 
-/// What a case gave so far: the file `A`, the input, the calls of devices that fail, what is shown of a machine, and what
+/// What a case gave so far: the file `A`, the input, the file `B`, where there is one, the calls of devices that fail, what is shown of a machine, and what
 /// lines of the error output begin with that are told. Where that is nothing, all are told.
 #[derive(Drop)]
 pub(crate) struct Case {
@@ -27,6 +30,7 @@ pub(crate) struct Case {
     pub is_code: bool,
     pub cut: Option<usize>,
     pub input: Vec<u8>,
+    pub second: Option<Vec<u8>>,
     pub file_fails: Vec<u64>,
     pub input_fails: Vec<u64>,
     pub out_fails: Vec<(u64, usize)>,
@@ -43,6 +47,7 @@ impl Case {
             is_code: false,
             cut: None,
             input: Vec::new(alloc),
+            second: None,
             file_fails: Vec::new(alloc),
             input_fails: Vec::new(alloc),
             out_fails: Vec::new(alloc),
@@ -60,6 +65,14 @@ impl Case {
             Fault::Out(call, bytes) => self.out_fails.push((call, bytes))?,
             Fault::Err(call, bytes) => self.err_fails.push((call, bytes))?,
         }
+        Ok(())
+    }
+
+    // Adds a line of the input, with its end.
+    fn push_line(&mut self, alloc: Global, text: &str) -> Result<(), Unread> {
+        self.input
+            .extend_from_slice(bytes_of(alloc, text)?.as_slice())?;
+        self.input.push(NEWLINE)?;
         Ok(())
     }
 
@@ -127,6 +140,8 @@ impl Case {
             "image" => push_image(&mut self.image, text)?,
             "cut" => self.cut = Some(text.parse().or(Err(Unread::Form))?),
             "input" => self.input = bytes_of(alloc, text)?,
+            "type" => self.push_line(alloc, text)?,
+            "file" => self.second = Some(bytes_of(alloc, text)?),
             "fails" => self.push_fault(fault_of(text).ok_or(Unread::Form)?)?,
             "show" => self.push_shown(text)?,
             "only" => self.only.push(String::from_str(alloc, text)?)?,

@@ -8,6 +8,8 @@
 //! image WORD..         words of the file `A` as they stand; they follow those of earlier lines
 //! cut N                the file is cut off after N bytes
 //! input TEXT           the input, which gives one byte a call
+//! type TEXT            one more line of the input, with its end
+//! file TEXT            the bytes of the file `B`, which is not there without such a line
 //! fails file N         call N of the file fails, from 0; likewise `fails input N`
 //! fails out N BYTES    put N of the output fails, after so many bytes; likewise `fails err N BYTES`
 //! show ITEM..          what is shown of the machine that is kept: `x5` and `v5` are registers, `setting` the vector setting

@@ -5,8 +5,10 @@ use cape_top::{Status, cape};
 use machine::Machine;
 use std::alloc::{AllocError, Global};
 
-// The name of the file of a case.
+// The names of the files of a case.
 const FILE: &str = "A";
+
+const SECOND: &str = "B";
 
 // The bytes that an output has room for.
 const ROOM: usize = 20_000;
@@ -32,6 +34,9 @@ pub(crate) fn end_of(
 ) -> Result<Ended, AllocError> {
     let mut files = MemFiles::new(alloc, words, case.file_fails.as_slice())?;
     files.add(alloc, FILE, file)?;
+    if let Some(second) = &case.second {
+        files.add(alloc, SECOND, second.as_slice())?;
+    }
     let mut input = MemSource::new(alloc, &case.input, INPUT_STEP, case.input_fails.as_slice())?;
     let mut out = MemSink::new(alloc, ROOM, case.out_fails.as_slice())?;
     let mut err = MemSink::new(alloc, ROOM, case.err_fails.as_slice())?;

@@ -1,17 +1,19 @@
 -- Why a call on words has its status, by the command that they are.
 use Rattle.std.proofs.Common.{◌≡◌, ◌⊎◌, inl, inr, ℕ, List, Option, Some, None, refl, sym, subst}
 use Rattle.std.specs.Prelude.{⊤, IsSomeAnd}
-use Rattle.cape_io.specs.Devices.{Absent, Rose}
+use Rattle.cape_io.specs.Devices.{Absent, KnownFile, Rose}
 use Rattle.command_words.specs.Grammar.{command_of, IsOnImage}
 use Rattle.command_words.specs.declared.words.Command.{Command}
-use Rattle.command_words.specs.declared.words.Command.TheVariants.{OnImage}
+use Rattle.command_words.specs.declared.words.Command.TheVariants.{OnImage, Debug, Gen, Bench, Help}
+use Rattle.command_words.specs.declared.words.DebugOptions.{DebugOptions}
 use Rattle.command_words.specs.declared.words.ImageCommand.{ImageCommand}
 use Rattle.command_words.specs.declared.words.ImageCommand.TheVariants.{Check}
 use Rattle.cape_top.specs.declared.ending.Status.{Status}
 use Rattle.cape_top.specs.declared.ending.Status.TheVariants.{Done, StepLimit, Refused, Usage, ReadFault, WriteFault, NoMemory, Exited as ExitedWith, Trapped as HasTrapped}
-use Rattle.cape_top.specs.Statuses.{IsEnded, IsOfRun, IsRefused}
+use Rattle.cape_top.specs.Debugging.{DebugReadFails, FileFails, IsOfDebug}
+use Rattle.cape_top.specs.Statuses.{IsEnded, IsFault, IsOfRun, IsRefused}
 use Rattle.cape_top.specs.Calls.{Call, HasNoFault, InputRose, SinkRose, known_at}
-use Rattle.cape_top.specs.Promises.{HasCause, ImageReadFails, IsDone, RunsGuest, RunsImage, TakesMemory, operand}
+use Rattle.cape_top.specs.Promises.{HasCause, ImageReadFails, IsDone, ReadFails, RunsGuest, RunsImage, TakesMemory, operand}
 
 -- a status that is neither a refusal, nor a usage error, nor a read fault
 abbrev pub IsApart : Status → Type 0
@@ -64,6 +66,28 @@ bench_apart s (inl (inr is)) = rw is tt
 bench_apart s (inr (inl is)) = rw is tt
 bench_apart s (inr (inr is)) = rw is tt
 
+refused_runs : (s : Status) → IsRefused s → IsOfRun s → ⊥
+refused_runs (Refused f) refused run = run
+refused_runs _ refused run = refused
+
+fault_runs : (s : Status) → IsFault s → IsOfRun s → ⊥
+fault_runs ReadFault fault run = run
+fault_runs WriteFault fault run = run
+fault_runs _ fault run = fault
+
+-- the statuses of a session are neither of a run nor a usage error
+debug_runs : (s : Status) → IsOfDebug s → IsOfRun s → ⊥
+debug_runs s (inl refused) run = refused_runs s refused run
+debug_runs s (inr (inl is)) run = rw is at run
+debug_runs s (inr (inr (inl fault))) run = fault_runs s fault run
+debug_runs s (inr (inr (inr is))) run = rw is at run
+
+debug_usage : (s : Status) → IsOfDebug s → s ≡ Usage → ⊥
+debug_usage s (inl refused) is = rw is at refused
+debug_usage s (inr (inl done)) is = cc
+debug_usage s (inr (inr (inl fault))) is = rw is at fault
+debug_usage s (inr (inr (inr lacks))) is = cc
+
 module _ (words : List (List ℕ)) (c : Call)
   where
     no_rose : HasNoFault c → Rose c.files.faults_before c.files.faults_after ⊎ InputRose c.devices → ⊥
@@ -78,32 +102,55 @@ module _ (words : List (List ℕ)) (c : Call)
     complete_by NoMemory read write quiet = inr refl
     complete_by _ read write quiet = inl tt
 
-    rose_of : (command : ImageCommand) → ImageReadFails command operand (known_at operand c) c → Rose c.files.faults_before c.files.faults_after ⊎ InputRose c.devices
-    rose_of command (inl fails) = inl fails.failed.rose
-    rose_of command (inr fails) = inr fails.rose
+    -- what could not read has a count that rose
+    rose_of_input : (place : Option ℕ) → IsSomeAnd place (λ p. FileFails p c) → Rose c.files.faults_before c.files.faults_after
+    rose_of_input None fails = absurd fails
+    rose_of_input (Some p) fails = fails.failed.rose
+
+    rose_of : (command : Command) (known : KnownFile) → ReadFails command operand known c → Rose c.files.faults_before c.files.faults_after ⊎ InputRose c.devices
+    rose_of (OnImage command) known (inl fails) = inl fails.failed.rose
+    rose_of (OnImage command) known (inr fails) = inr fails.rose
+    rose_of (Debug options) known (inl fails) = inl fails.failed.rose
+    rose_of (Debug options) known (inr (inl fails)) = inl (rose_of_input options.input fails.fails)
+    rose_of (Debug options) known (inr (inr fails)) = inr fails.rose
+    rose_of (Gen w) known fails = absurd fails
+    rose_of (Bench w) known fails = absurd fails
+    rose_of Help known fails = absurd fails
 
     no_words : (command : Command) → command_of words ≡ Some command → command_of words ≡ None → ⊥
     no_words command found none = cc
 
+    -- a command on an image, or a session on one
+    pub cause_of : (command : Command) (s : Status) → command_of words ≡ Some command → c.files.names ≡ words → IsOnImage command → TakesMemory command
+        → (IsOfRun s → RunsGuest command) → (s ≡ Done → IsDone command) → (s ≡ Usage → ⊥) → (known_at operand c ≡ Absent → s ≡ ReadFault)
+        → (s ≡ ReadFault → ReadFails command operand (known_at operand c) c) → (s ≡ WriteFault → SinkRose c.devices) → HasCause words c s
+    cause_of command s found made on takes of_run of_done no_usage absent read write = record {
+      of_run = λ run. rw found (of_run run);
+      of_done = λ done. rw found (of_done done);
+      of_image = λ refused. rw found on;
+      of_words = λ usage. absurd (no_usage usage);
+      no_command = λ none. absurd (no_words command found none);
+      of_memory = λ lacks. rw found takes;
+      absent = λ of is. absent (rw made is);
+      read = λ is. rw (found, ← made) (read is);
+      write = write;
+      complete = complete_by s (λ is. rose_of command _ (read is)) write;
+    }
+
     done_check : (command : ImageCommand) → command ≡ Check → IsDone (OnImage command)
     done_check command is = rw is tt
 
-    -- a command on an image
     pub cause_on_image : (command : ImageCommand) (s : Status) → command_of words ≡ Some (OnImage command) → c.files.names ≡ words
         → (IsOfRun s → RunsImage command) → (s ≡ Done → command ≡ Check) → (s ≡ Usage → ⊥) → (known_at operand c ≡ Absent → s ≡ ReadFault)
         → (s ≡ ReadFault → ImageReadFails command operand (known_at operand c) c) → (s ≡ WriteFault → SinkRose c.devices) → HasCause words c s
-    cause_on_image command s found made of_run of_done no_usage absent read write = record {
-      of_run = λ run. rw found (of_run run);
-      of_done = λ done. rw found (done_check command (of_done done));
-      of_image = λ refused. rw found tt;
-      of_words = λ usage. absurd (no_usage usage);
-      no_command = λ none. absurd (no_words (OnImage command) found none);
-      of_memory = λ lacks. rw found tt;
-      absent = λ on is. absent (rw made is);
-      read = λ is. rw (found, ← made) (read is);
-      write = write;
-      complete = complete_by s (λ is. rose_of command (read is)) write;
-    }
+    cause_on_image command s found made of_run of_done no_usage absent read write =
+        cause_of (OnImage command) s found made tt tt of_run (λ done. done_check command (of_done done)) no_usage absent read write
+
+    pub cause_of_debug : (options : DebugOptions) (s : Status) → command_of words ≡ Some (Debug options) → c.files.names ≡ words → IsOfDebug s
+        → (known_at operand c ≡ Absent → s ≡ ReadFault) → (s ≡ ReadFault → DebugReadFails options operand (known_at operand c) c) → (s ≡ WriteFault → SinkRose c.devices)
+        → HasCause words c s
+    cause_of_debug options s found made only absent read write =
+        cause_of (Debug options) s found made tt tt (debug_runs s only) (λ done. tt) (debug_usage s only) absent read write
 
     -- a command of another kind
     pub cause_apart : (command : Command) (s : Status) → command_of words ≡ Some command → (IsOnImage command → ⊥) → IsDone command

@@ -6,3 +6,4 @@ pub mod TopLemmas
 pub mod BenchLemmas
 pub mod CallLemmas
 pub mod CauseLemmas
+pub mod DebugLemmas

@@ -60,17 +60,18 @@ pub no_error : {A E : Type 0} (r : Result A E) → false ≡ is_err r → IsErr 
 no_error r is error = true≢false (sym error ∙ sym is)
 
 -- what was read, as far as the file is known
-pub read_of : (known : KnownFile) (items : List ℕ) → (known ≡ Absent → ⊥) → ((bytes : List ℕ) → known ≡ Present bytes → items ≡ take read_limit bytes) → IsReadOf known items
-read_of Unknown items there read = tt
-read_of Absent items there read = there refl
-read_of (Present bytes) items there read = read bytes refl
+pub read_of : (limit : ℕ) (known : KnownFile) (items : List ℕ) → (known ≡ Absent → ⊥) → ((bytes : List ℕ) → known ≡ Present bytes → items ≡ take limit bytes)
+    → IsReadOf limit known items
+read_of limit Unknown items there read = tt
+read_of limit Absent items there read = there refl
+read_of limit (Present bytes) items there read = read bytes refl
 
-pub loaded_of : (known : KnownFile) (items : List ℕ) (loaded : Loaded) → IsReadOf known items → IsLoadedFrom items loaded → IsLoadedOf known loaded
+pub loaded_of : (known : KnownFile) (items : List ℕ) (loaded : Loaded) → IsReadOf read_limit known items → IsLoadedFrom items loaded → IsLoadedOf known loaded
 loaded_of Unknown items loaded read from = tt
 loaded_of Absent items loaded read from = read
 loaded_of (Present image) items loaded read from = loaded_read image items loaded read from
 
-pub fault_of : (known : KnownFile) (items : List ℕ) (f : LoadFault) → IsReadOf known items → fault items ≡ Some f → IsFaultOf known f
+pub fault_of : (known : KnownFile) (items : List ℕ) (f : LoadFault) → IsReadOf read_limit known items → fault items ≡ Some f → IsFaultOf known f
 fault_of Unknown items f read is = tt
 fault_of Absent items f read is = read
 fault_of (Present image) items f read is = sym (fault_read image items read) ∙ is

@@ -1,7 +1,7 @@
 -- How a command ends, by what was loaded; and a machine at its start shows the opening state.
-use Rattle.std.proofs.Common.{◌≡◌, ◌⊎◌, inl, inr, ℕ, ◌/◌, List, [], map, Option, Some, None, true, false, refl, sym, ap, subst, IfSome, option_map}
+use Rattle.std.proofs.Common.{◌≡◌, ◌⊎◌, inl, inr, ℕ, ◌/◌, Bool, List, [], map, Option, Some, None, true, false, refl, sym, ap, subst, IfSome, option_map}
+use Rattle.std.specs.Prelude.{if◌then◌else◌}
 use Rattle.std.specs.Io.KnownBytes.{Appends}
-use Rattle.std.specs.Option.{option_map_or}
 use Rattle.cape_io.specs.Devices.{AppendsPrefix, KnownFile, Unknown, Absent, Present}
 use Rattle.guest_mem.specs.Pages.{Memory}
 use Rattle.elf_load.specs.Layout.{span_of}
@@ -13,8 +13,8 @@ use Rattle.vtype_cfg.specs.declared.configuration.Policy.{Policy}
 use Rattle.rvv_meaning.specs.Images.{start_core, start_state}
 use Rattle.machine.specs.Moments.{Held, cleared_control, first_moment}
 use Rattle.machine.specs.Opening.{start, memory_of}
+use Rattle.machine.specs.Views.{Shows}
 use Rattle.machine.proofs.Carried.{appends_none}
-use Rattle.command_words.specs.declared.words.Command.{Command}
 use Rattle.command_words.specs.declared.words.ImageCommand.{ImageCommand}
 use Rattle.command_words.specs.declared.words.ImageCommand.TheVariants.{Run, Check}
 use Rattle.command_words.specs.declared.words.RunOptions.{RunOptions}
@@ -25,7 +25,7 @@ use Rattle.cape_top.specs.Statuses.{IsEnded}
 use Rattle.cape_io.specs.Views.{DeviceViews, Devices, Writes, devices}
 use Rattle.cape_io.specs.declared.devices.Source.{Ghosts as SourceGhosts}
 use Rattle.cape_io.specs.declared.devices.Sink.{Ghosts as SinkGhosts}
-use Rattle.cape_top.specs.Endings.{Ending, Ends, EndsBy, ReadsKnown, WritesPrefixes, file_ending, ending_from, ending_without_run, refused_ending, usage_ending}
+use Rattle.cape_top.specs.Endings.{Ending, Ends, EndsBy, ReadsKnown, WritesPrefixes, file_ending, ending_from, ending_without_run, refused_ending}
 use Rattle.cape_top.specs.Reading.{IsFaultOf, IsLoadedFrom, IsLoadedOf}
 use Rattle.cape_top.specs.Runs.{LoadedEnds, LoadedReads, ShowsFirst, loaded_start}
 use Rattle.cape_top.proofs.StatusLemmas.{ends_in_fault, ends_in_lack, ends_so, prefix_none, prefix_put}
@@ -34,26 +34,37 @@ use Rattle.cape_top.proofs.StatusLemmas.{ends_in_fault, ends_in_lack, ends_so, p
 abbrev pub memory_in : Loaded → Memory
 memory_in l = memory_of l.regions l.heap l.heap_end
 
--- a machine in the opening state with these devices shows the first moment
-pub shows_start : (vlen : ℕ) (policy : Policy) (pc : ℕ) (mem : Memory) (input : List ℕ) (machine : Held) (v : DeviceViews) → v.input.left ≡ Some input
+nothing_gained : (merged : Bool) (held : Option (List ℕ)) → Appends held held (if merged then [] else [])
+nothing_gained true held = appends_none held
+nothing_gained false held = appends_none held
+
+-- a machine in the opening state with these devices shows the first moment, whether the sinks are merged or not
+pub shows_start_so : (merged : Bool) (vlen : ℕ) (policy : Policy) (pc : ℕ) (mem : Memory) (input : List ℕ) (machine : Held) (v : DeviceViews) → v.input.left ≡ Some input
     → machine.core ≡ start_core vlen policy pc mem → slices_of machine.chain ≡ blank (vlen / 32) → machine.last ≡ []
     → machine.chain.counts ≡ no_counts → machine.control ≡ cleared_control
-    → ShowsFirst (first_moment (start_state vlen policy pc mem input)) machine v
+    → Shows merged (first_moment (start_state vlen policy pc mem input)) machine v v
 unfolding start_state start_core
-shows_start vlen policy pc mem input machine v known core slices last counts control = record {
+shows_start_so merged vlen policy pc mem input machine v known core slices last counts control = record {
   holds = sym core;
   slices = sym slices;
   last = sym last;
   counts = sym counts;
   control = sym control;
   known = known;
-  gained_out = appends_none v.out.held;
-  gained_err = appends_none v.err.held;
+  gained_out = nothing_gained merged v.out.held;
+  gained_err = nothing_gained merged v.err.held;
 }
 
-start_loaded : (options : RunOptions) (image input : List ℕ) (l : Loaded) → IsLoadedFrom image l → start image options.vlen options.policy input ≡ loaded_start options l input
+pub shows_start : (vlen : ℕ) (policy : Policy) (pc : ℕ) (mem : Memory) (input : List ℕ) (machine : Held) (v : DeviceViews) → v.input.left ≡ Some input
+    → machine.core ≡ start_core vlen policy pc mem → slices_of machine.chain ≡ blank (vlen / 32) → machine.last ≡ []
+    → machine.chain.counts ≡ no_counts → machine.control ≡ cleared_control
+    → ShowsFirst (first_moment (start_state vlen policy pc mem input)) machine v
+shows_start vlen policy pc mem input machine v known core slices last counts control =
+    shows_start_so false vlen policy pc mem input machine v known core slices last counts control
+
+pub start_loaded : (vlen : ℕ) (policy : Policy) (image input : List ℕ) (l : Loaded) → IsLoadedFrom image l → start image vlen policy input ≡ start_state vlen policy l.entry_pc (memory_in l) input
 unfolding start
-start_loaded options image input l from = rw (from.entry_pc, from.regions_are, from.heap_is, from.heap_end_is) refl
+start_loaded vlen policy image input l from = rw (from.entry_pc, from.regions_are, from.heap_is, from.heap_end_is) refl
 
 -- a fact of the ending of a refused image holds of the ending of the command, as far as its file is known
 pub refused_if : (command : ImageCommand) (known : KnownFile) (left : Option (List ℕ)) (f : LoadFault) → IsFaultOf known f
@@ -71,16 +82,11 @@ checked_if Unknown left l from P holds = tt
 checked_if Absent left l from P holds = absurd from
 checked_if (Present image) left l from P holds = rw (from.sound, ← from.entry_pc, ← from.regions_are) holds
 
--- a fact of the ending of a usage error holds of the ending of words outside the grammar
-pub usage_if : (ending : Command → Option Ending) (found : Option Command) (left : Option (List ℕ)) → found ≡ None
-    → (P : Ending → Type 0) → P (usage_ending left) → IfSome (option_map_or ending found (Some (usage_ending left))) P
-usage_if ending found left none P holds = rw none holds
-
 run_of_image : (options : RunOptions) (image : List ℕ) (l : Loaded) → IsLoadedFrom image l → (left : Option (List ℕ))
     → option_map (λ input. ending_from options (loaded_start options l input)) left ≡ file_ending (Run options) (Present image) left
 unfolding file_ending
 run_of_image options image l from None = rw from.sound refl
-run_of_image options image l from (Some input) = rw from.sound (ap (λ s. Some (ending_from options s)) (sym (start_loaded options image input l from)))
+run_of_image options image l from (Some input) = rw from.sound (ap (λ s. Some (ending_from options s)) (sym (start_loaded options.vlen options.policy image input l from)))
 
 -- the run of what was loaded ends as the command does
 pub run_ends : (options : RunOptions) (known : KnownFile) (l : Loaded) → IsLoadedOf known l → (d : Devices) (s : Status) (kept : Option Held)
@@ -93,7 +99,7 @@ run_ends options (Present image) l from d s kept ends = subst (λ e. Ends e d s 
 reads_of_image : (options : RunOptions) (image : List ℕ) (l : Loaded) → IsLoadedFrom image l → (left : Option (List ℕ)) (v : DeviceViews) → v.input.left ≡ left
     → LoadedReads l options v → ReadsKnown (Run options) (Present image) left
 reads_of_image options image l from None v is reads = tt
-reads_of_image options image l from (Some input) v is reads = (from.sound, rw (start_loaded options image input l from) (rw is at reads))
+reads_of_image options image l from (Some input) v is reads = (from.sound, rw (start_loaded options.vlen options.policy image input l from) (rw is at reads))
 
 -- and reads the input where it does
 pub run_reads : (options : RunOptions) (known : KnownFile) (l : Loaded) → IsLoadedOf known l → (v : DeviceViews) → LoadedReads l options v → ReadsKnown (Run options) known v.input.left

@@ -20,8 +20,6 @@ use Rattle.machine.specs.declared.answers.Step.{Step}
 use Rattle.machine.specs.declared.answers.Step.TheVariants.{Ran, Exited, Trapped}
 use Rattle.command_words.specs.Grammar.{default_steps, default_vlen}
 use Rattle.command_words.specs.Help.{help_text}
-use Rattle.command_words.specs.declared.words.Command.{Command}
-use Rattle.command_words.specs.declared.words.Command.TheVariants.{OnImage, Gen, Bench, Help}
 use Rattle.command_words.specs.declared.words.ImageCommand.{ImageCommand}
 use Rattle.command_words.specs.declared.words.ImageCommand.TheVariants.{Run, Check}
 use Rattle.command_words.specs.declared.words.RunOptions.{RunOptions}
@@ -167,13 +165,6 @@ bench_ending w left = bench_at w (workload_reached w) left
 -- the lines of the grammar are written
 abbrev pub help_ending : Option (List ℕ) → Ending
 help_ending left = ending_without_run Done help_text [] left
-
--- How a command ends, as far as its file and the input are known, where it needs them.
-abbrev pub command_ending : Command → KnownFile → Option (List ℕ) → Option Ending
-command_ending (OnImage command) known left = file_ending command known left
-command_ending (Gen w) known left = Some (gen_ending w left)
-command_ending (Bench w) known left = Some (bench_ending w left)
-command_ending Help known left = Some (help_ending left)
 
 -- The call ended so: its status, the machine that is kept, the input left, and what each sink gained.
 pub record EndsBy (status : Status) (kept : Option Held) (d : Devices) (e : Ending) : Type 0 where

@@ -5,4 +5,5 @@ pub mod Calls
 pub mod Reading
 pub mod Endings
 pub mod Runs
+pub mod Debugging
 pub mod Promises

@@ -1,12 +1,12 @@
 -- What the top call promises on its words: how it ends, and why.
-use Rattle.std.specs.Prelude.{◌≡◌, ◌⊎◌, ⊤, ℕ, List, Option, Some, None, IsSomeAnd, map, string_bytes}
-use Rattle.std.specs.Option.{option_map_or}
+use Rattle.std.specs.Prelude.{◌≡◌, ◌⊎◌, ⊤, ℕ, List, Option, Some, None, IsSomeAnd, MatchOption, map, string_bytes}
 use Rattle.std.specs.declared.alloc.Global.{Global}
 use Rattle.std.specs.declared.string.String.{String}
 use Rattle.cape_io.specs.Devices.{Absent, KnownFile, word_at}
 use Rattle.command_words.specs.Grammar.{command_of, IsOnImage}
 use Rattle.command_words.specs.declared.words.Command.{Command}
-use Rattle.command_words.specs.declared.words.Command.TheVariants.{OnImage, Gen, Bench, Help}
+use Rattle.command_words.specs.declared.words.Command.TheVariants.{OnImage, Debug, Gen, Bench, Help}
+use Rattle.command_words.specs.declared.words.DebugOptions.{DebugOptions}
 use Rattle.command_words.specs.declared.words.ImageCommand.{ImageCommand}
 use Rattle.command_words.specs.declared.words.ImageCommand.TheVariants.{Run, Check}
 use Rattle.command_words.specs.declared.words.RunOptions.{RunOptions}
@@ -16,8 +16,10 @@ use Rattle.cape_top.specs.declared.ending.Status.{Status}
 use Rattle.cape_top.specs.declared.ending.Status.TheVariants.{Done, Usage, ReadFault, WriteFault, NoMemory}
 use Rattle.cape_io.specs.Views.{Devices, SourceView}
 use Rattle.cape_top.specs.Statuses.{IsEnded, IsOfRun, IsRefused}
-use Rattle.cape_top.specs.Calls.{Call, FailedOn, HasNoFault, InputRose, SinkRose, WritesNothing, known_at}
-use Rattle.cape_top.specs.Endings.{Ending, Ends, ReadsKnown, bench_ending, command_ending, file_ending, usage_ending}
+use Rattle.cape_top.specs.Calls.{Call, HasNoFault, InputRose, SinkRose, known_at}
+use Rattle.cape_top.specs.Debugging.{DebugEnds, DebugReadFails, FileFails}
+use Rattle.cape_top.specs.Endings.{Ending, Ends, ReadsKnown, bench_ending, file_ending, gen_ending, help_ending, usage_ending}
+use Rattle.cape_top.specs.Reading.{file_if}
 
 -- the bytes of words
 abbrev pub words_of : List (String Global) → List (List ℕ)
@@ -35,11 +37,9 @@ known_file words c = c.files.known (word_at words operand)
 abbrev pub ending_at_place : ImageCommand → ℕ → Call → Option Ending
 ending_at_place command place c = file_ending command (known_at place c) c.devices.old.input.left
 
--- how a call on these words ends, as far as that is known
-abbrev pub ending_of : List (List ℕ) → Call → Option Ending
-ending_of words c =
-    let left = c.devices.old.input.left in
-    option_map_or (λ command. command_ending command (known_file words c) left) (command_of words) (Some (usage_ending left))
+-- what is known of the file of the guest's input of a session, which the words name; it is as one of no bytes where they name none
+abbrev pub known_input : DebugOptions → List (List ℕ) → Call → KnownFile
+known_input options words c = file_if c.files.known words options.input
 
 -- a command on the image of the word at a place ends as it should
 abbrev pub ImageEnds : ImageCommand → ℕ → Call → Status → Option Held → Type 0
@@ -56,33 +56,41 @@ MayKeepOf Check status = ⊥
 
 abbrev pub MayKeep : Command → Status → Type 0
 MayKeep (OnImage command) status = MayKeepOf command status
+MayKeep (Debug options) status = ⊥
 MayKeep (Gen w) status = ⊥
 MayKeep (Bench w) status = status ≡ Done
 MayKeep Help status = ⊥
 
+-- A command ends as it should, as far as its files and the input are known, where it needs them.
+abbrev pub CommandEnds : Command → List (List ℕ) → Call → Status → Option Held → Type 0
+CommandEnds (OnImage command) words c status kept = Ends (file_ending command (known_file words c) c.devices.old.input.left) c.devices status kept
+CommandEnds (Debug options) words c status kept = DebugEnds options (known_file words c) (known_input options words c) c.devices status kept
+CommandEnds (Gen w) words c status kept = Ends (Some (gen_ending w c.devices.old.input.left)) c.devices status kept
+CommandEnds (Bench w) words c status kept = Ends (Some (bench_ending w c.devices.old.input.left)) c.devices status kept
+CommandEnds Help words c status kept = Ends (Some (help_ending c.devices.old.input.left)) c.devices status kept
+
+abbrev pub UsageEnds : Call → Status → Option Held → Type 0
+UsageEnds c status kept = Ends (Some (usage_ending c.devices.old.input.left)) c.devices status kept
+
 -- A call on these words ends as it should.
 pub record CallEnds (words : List (List ℕ)) (c : Call) (status : Status) (kept : Option Held) : Type 0 where
-  -- It ends so, as far as that is known.
-  pub ends : Ends (ending_of words c) c.devices status kept
+  -- It ends as the command that they are, or as words outside the grammar.
+  pub ends : MatchOption (command_of words) (UsageEnds c status kept) (λ command. CommandEnds command words c status kept)
   -- A machine is kept only where the command and the status say so.
   pub keeps : IsSomeAnd (command_of words) (λ command. MayKeep command status) ⊎ (kept ≡ None)
-
--- The file could not be read, and nothing was written.
-pub record FileFails (place : ℕ) (c : Call) : Type 0 where
-  pub failed : FailedOn place c.files
-  pub nothing : WritesNothing c.devices
 
 -- The input failed in a run, and, where this is known, one of the run's steps reads bytes.
 pub record InputFails (command : ImageCommand) (known : KnownFile) (c : Call) : Type 0 where
   pub rose : InputRose c.devices
   pub reads : ReadsKnown command known c.devices.old.input.left
 
--- Why a command on an image of which this is known could not read. No other command reads.
+-- Why a command on an image of which this is known could not read. No other command reads but a session.
 abbrev pub ImageReadFails : ImageCommand → ℕ → KnownFile → Call → Type 0
 ImageReadFails command place known c = FileFails place c ⊎ InputFails command known c
 
 abbrev pub ReadFails : Command → ℕ → KnownFile → Call → Type 0
 ReadFails (OnImage command) place known c = ImageReadFails command place known c
+ReadFails (Debug options) place known c = DebugReadFails options place known c
 ReadFails (Gen w) place known c = ⊥
 ReadFails (Bench w) place known c = ⊥
 ReadFails Help place known c = ⊥
@@ -98,6 +106,7 @@ RunsImage Check = ⊥
 
 abbrev pub RunsGuest : Command → Type 0
 RunsGuest (OnImage command) = RunsImage command
+RunsGuest (Debug options) = ⊥
 RunsGuest (Gen w) = ⊥
 RunsGuest (Bench w) = ⊤
 RunsGuest Help = ⊥
@@ -105,6 +114,7 @@ RunsGuest Help = ⊥
 abbrev pub IsDone : Command → Type 0
 IsDone (OnImage (Run options)) = ⊥
 IsDone (OnImage Check) = ⊤
+IsDone (Debug options) = ⊤
 IsDone (Gen w) = ⊤
 IsDone (Bench w) = ⊤
 IsDone Help = ⊤
@@ -127,7 +137,7 @@ pub record HasCause (words : List (List ℕ)) (c : Call) (status : Status) : Typ
   pub of_memory : status ≡ NoMemory → IsSomeAnd (command_of words) TakesMemory
   -- The file of a command is not there, and so it cannot be read.
   pub absent : IsSomeAnd (command_of words) IsOnImage → known_file words c ≡ Absent → status ≡ ReadFault
-  -- A command could not read its file, and nothing was written; or it is a run, and could not read the input.
+  -- A command could not read a file, and nothing was written; or it is a run or a session, and could not read the input.
   pub read : status ≡ ReadFault → IsSomeAnd (command_of words) (λ command. ReadFails command operand (known_file words c) c)
   -- An output failed.
   pub write : status ≡ WriteFault → SinkRose c.devices

@@ -22,8 +22,8 @@ use machine::Machine;
 use report_texts::{refused_line, write_layout};
 use std::alloc::Global;
 
-// Writes why an image is refused.
-fn refuse<E: Sink>(fault: LoadFault, err: &mut E) -> Status
+/// Writes why an image is refused.
+pub(crate) fn refuse<E: Sink>(fault: LoadFault, err: &mut E) -> Status
     ensures only { (result ≡ Status.Refused fault) ⊎ (result ≡ Status.WriteFault) }
     ensures said { result ≡ Status.Refused fault → Writes E.Sink (line_for fault) true err.old err.new }
     ensures fails { result ≡ Status.WriteFault → Writes E.Sink (line_for fault) false err.old err.new }

@@ -2,6 +2,7 @@
 //! devices, and tests call it with devices over memory.
 #![tactic(auto)]
 
+mod debugging;
 mod ending;
 mod images;
 mod loading;

@@ -6,6 +6,7 @@ ghost use Rattle.rvv_meaning.specs.Texts.{usage_line};
 ghost use Rattle.cape_top.specs.Calls.{call};
 ghost use Rattle.cape_top.specs.Promises.{words_of, CallEnds, HasCause};
 
+use crate::debugging::debug;
 use crate::ending::Status;
 use crate::images::do_on_image;
 use crate::workloads::{bench, write_workload};
@@ -64,6 +65,7 @@ pub fn cape<F: Files, S: Source, O: Sink, E: Sink>(
         Some(Command::OnImage(command)) => {
             do_on_image(alloc, command, OPERAND, files, input, out, err, kept)
         }
+        Some(Command::Debug(options)) => debug(alloc, options, OPERAND, files, input, out, err),
         Some(Command::Gen(workload)) => write_workload(alloc, workload, out),
         Some(Command::Bench(workload)) => bench(alloc, workload, out, err, kept),
         Some(Command::Help) => write_help(out),

@@ -1,6 +1,6 @@
 -- Reading a number digit by digit, and options word by word.
 use Rattle.std.proofs.Common.{◌≡◌, ℕ, ◌+◌, ◌-◌, ◌*◌, ◌<◌, ◌≤◌, Bool, true, false, List, [], ◌∷◌, length, map, take, drop, get_or, length-drop, Option, Some, None, IsTrue, IfSome, refl, sym, ap, ◌∙◌, arith}
-use Rattle.std.specs.Prelude.{nat_le, if◌then◌else◌, codes, ⊤}
+use Rattle.std.specs.Prelude.{nat_le, if◌then◌else◌, codes, is_some, ◌||◌, ⊤}
 use Rattle.std.specs.Str.{bytes_eq}
 use Rattle.std.specs.Option.{unwrap_or, option_map_or}
 use Rattle.std.proofs.lemmas.Bool.{leb-true, false_from_ne_true}
@@ -9,14 +9,16 @@ use Rattle.std.proofs.lemmas.List.{at_drop_more, drop_all, take_all}
 use Rattle.vtype_cfg.specs.Settings.{is_legal_vlen, legal_vlens}
 use Rattle.vtype_cfg.proofs.Supported.{vlen_bounded}
 use Rattle.command_words.specs.declared.words.Command.{Command}
-use Rattle.command_words.specs.declared.words.Command.TheVariants.{OnImage, Gen, Bench, Help}
+use Rattle.command_words.specs.declared.words.Command.TheVariants.{OnImage, Debug, Gen, Bench, Help}
 use Rattle.command_words.specs.declared.words.ImageCommand.{ImageCommand}
+use Rattle.command_words.specs.declared.words.DebugOptions.{DebugOptions}
 use Rattle.command_words.specs.declared.words.Flag.{Flag}
 use Rattle.command_words.specs.declared.words.Flag.TheVariants.{State, Counts, Work}
 use Rattle.command_words.specs.declared.words.Given.{Given}
 use Rattle.command_words.specs.declared.words.Valued.{Valued}
-use Rattle.command_words.specs.declared.words.Valued.TheVariants.{Steps, Vlen, Agnostic}
-use Rattle.command_words.specs.Grammar.{on_some, digit, digits_after, number, in_range, number_in, most_steps, default_steps, default_vlen, steps_in, legal, vlen_in, policy_in, sole_value, flag_named, valued_named, add_flag, add_value, options_after, none_given, run_with, check_with, image_command_named, command_of, IsImageCommandInRange, IsOnImage}
+use Rattle.command_words.specs.declared.words.Workload.{Workload}
+use Rattle.command_words.specs.declared.words.Valued.TheVariants.{Input, Steps, Vlen, Agnostic}
+use Rattle.command_words.specs.Grammar.{first_option, help_with, image_command, is_name, on_image, on_some, workload_in, digit, digits_after, number, in_range, number_in, most_steps, default_steps, default_vlen, steps_in, legal, vlen_in, policy_in, sole_value, file_place, flag_named, valued_named, add_flag, add_value, options_after, none_given, run_with, debug_with, check_with, image_command_named, session_in, session_on, command_of, IsImageCommandInRange, IsSessionInRange, HasInput, IsOnImage}
 
 none_in_range : (most : ℕ) (o : Option ℕ) (f : ℕ → Option ℕ) → ((d : ℕ) → in_range most (f d) ≡ None) → in_range most (on_some o f) ≡ None
 none_in_range most None f none = refl
@@ -77,33 +79,35 @@ unfolding vlen_in number_in
 vlen_of_number word = legal_in_range (number word)
 
 -- an option that stands alone
-pub flag_added : (given : Given) (flag : Flag) (next : Option Given) (word : List ℕ) (rest : List (List ℕ)) → Some flag ≡ flag_named word → next ≡ add_flag flag given
-    → options_after given (word ∷ rest) ≡ on_some next (λ g. options_after g rest)
+pub flag_added : (place : ℕ) (given : Given) (flag : Flag) (next : Option Given) (word : List ℕ) (rest : List (List ℕ)) → Some flag ≡ flag_named word → next ≡ add_flag flag given
+    → options_after place given (word ∷ rest) ≡ on_some next (λ g. options_after (place + 1) g rest)
 unfolding options_after
-flag_added given flag None word [] is added = rw (← is, ← added) refl
-flag_added given flag (Some next) word [] is added = rw (← is, ← added) refl
-flag_added given flag next word (value ∷ rest) is added = rw (← is, ← added) refl
+flag_added place given flag None word [] is added = rw (← is, ← added) refl
+flag_added place given flag (Some next) word [] is added = rw (← is, ← added) refl
+flag_added place given flag next word (value ∷ rest) is added = rw (← is, ← added) refl
 
 -- an option with its value
-pub value_added : (given : Given) (option : Valued) (next : Option Given) (word value : List ℕ) (rest : List (List ℕ)) → None ≡ flag_named word → Some option ≡ valued_named word
-    → next ≡ add_value option value given → options_after given (word ∷ value ∷ rest) ≡ on_some next (λ g. options_after g rest)
+pub value_added : (place : ℕ) (given : Given) (option : Valued) (next : Option Given) (word value : List ℕ) (rest : List (List ℕ)) → None ≡ flag_named word
+    → Some option ≡ valued_named word → next ≡ add_value option value (place + 1) given
+    → options_after place given (word ∷ value ∷ rest) ≡ on_some next (λ g. options_after (place + 2) g rest)
 unfolding options_after
-value_added given option next word value rest not is added = rw (← not, ← is, ← added) refl
+value_added place given option next word value rest not is added = rw (← not, ← is, ← added) refl
 
 -- the value is missing
-pub value_missing : (given : Given) (word : List ℕ) → None ≡ flag_named word → options_after given (word ∷ []) ≡ None
+pub value_missing : (place : ℕ) (given : Given) (word : List ℕ) → None ≡ flag_named word → options_after place given (word ∷ []) ≡ None
 unfolding options_after
-value_missing given word not = rw (← not) refl
+value_missing place given word not = rw (← not) refl
 
 -- a word that is no option
-pub no_option : (given : Given) (word : List ℕ) (rest : List (List ℕ)) → None ≡ flag_named word → None ≡ valued_named word → options_after given (word ∷ rest) ≡ None
+pub no_option : (place : ℕ) (given : Given) (word : List ℕ) (rest : List (List ℕ)) → None ≡ flag_named word → None ≡ valued_named word
+    → options_after place given (word ∷ rest) ≡ None
 unfolding options_after
-no_option given word [] not nor = rw (← not) refl
-no_option given word (value ∷ rest) not nor = rw (← not, ← nor) refl
+no_option place given word [] not nor = rw (← not) refl
+no_option place given word (value ∷ rest) not nor = rw (← not, ← nor) refl
 
-pub none_left : (given : Given) → options_after given [] ≡ Some given
+pub none_left : (place : ℕ) (given : Given) → options_after place given [] ≡ Some given
 unfolding options_after
-none_left given = refl
+none_left place given = refl
 
 -- the first element of a list, and what comes after it
 module _ {X Y : Type 0} (f : X → Y) where
@@ -172,47 +176,110 @@ vlen_so : (word : List ℕ) → IfSome (vlen_in word) (λ n. IsTrue (is_legal_vl
 unfolding vlen_in
 vlen_so word = legal_so (number word)
 
--- what is given is in its range
-record IsGivenInRange (given : Given) : Type 0 where
+-- What is given is in its range, where there are so many words.
+record IsGivenInRange (count : ℕ) (given : Given) : Type 0 where
+  input : IfSome given.input (λ place. place < count)
   steps : IfSome given.steps (λ n. n ≤ most_steps)
   vlen : IfSome given.vlen (λ n. IsTrue (is_legal_vlen n))
 
-flag_so : (flag : Flag) (given : Given) → IsGivenInRange given → IfSome (add_flag flag given) IsGivenInRange
-flag_so State given is = none_or_so IsGivenInRange _ given.state (record { steps = is.steps; vlen = is.vlen })
-flag_so Counts given is = none_or_so IsGivenInRange _ given.counts (record { steps = is.steps; vlen = is.vlen })
-flag_so Work given is = none_or_so IsGivenInRange _ given.work (record { steps = is.steps; vlen = is.vlen })
+place_so : (count place : ℕ) (word : List ℕ) → place < count → IfSome (file_place word place) (λ p. p < count)
+place_so count place [] within = tt
+place_so count place (c ∷ rest) within = so_or_none (λ p. p < count) place (is_name (c ∷ rest)) (λ is. within)
 
-value_so : (option : Valued) (value : List ℕ) (given : Given) → IsGivenInRange given → IfSome (add_value option value given) IsGivenInRange
-value_so Steps value given is =
-    on_some_so IsGivenInRange (λ n. n ≤ most_steps) (sole_value given.steps (steps_in value)) (λ n. Some (record given { steps = Some n }))
-    (sole_so (λ n. n ≤ most_steps) given.steps (steps_in value) (steps_so value))
-    (λ n few. record { steps = few; vlen = is.vlen })
-value_so Vlen value given is =
-    on_some_so IsGivenInRange (λ n. IsTrue (is_legal_vlen n)) (sole_value given.vlen (vlen_in value)) (λ n. Some (record given { vlen = Some n }))
-    (sole_so (λ n. IsTrue (is_legal_vlen n)) given.vlen (vlen_in value) (vlen_so value))
-    (λ n legal. record { steps = is.steps; vlen = legal })
-value_so Agnostic value given is =
-    on_some_so IsGivenInRange (λ p. ⊤) (sole_value given.policy (policy_in value)) (λ p. Some (record given { policy = Some p }))
-    (some_so (sole_value given.policy (policy_in value)))
-    (λ p any. record { steps = is.steps; vlen = is.vlen })
+module _ (count : ℕ)
+  where
+    abbrev InRange : Given → Type 0
+    InRange given = IsGivenInRange count given
 
-options_so : (words : List (List ℕ)) (given : Given) → IsGivenInRange given → IfSome (options_after given words) IsGivenInRange
-unfolding options_after
-options_so [] given is = is
-options_so (word ∷ []) given is =
-    on_some_so IsGivenInRange (λ flag. ⊤) (flag_named word) (λ flag. add_flag flag given) (some_so (flag_named word)) (λ flag any. flag_so flag given is)
-options_so (word ∷ value ∷ rest) given is =
-    map_or_so IsGivenInRange (flag_named word) (λ flag. on_some (add_flag flag given) (λ g. options_after g (value ∷ rest))) _
-    (λ flag. on_some_so IsGivenInRange IsGivenInRange (add_flag flag given) (λ g. options_after g (value ∷ rest)) (flag_so flag given is) (λ g so. options_so (value ∷ rest) g so))
-    (on_some_so IsGivenInRange (λ option. ⊤) (valued_named word) (λ option. on_some (add_value option value given) (λ g. options_after g rest)) (some_so (valued_named word))
-    (λ option any. on_some_so IsGivenInRange IsGivenInRange (add_value option value given) (λ g. options_after g rest) (value_so option value given is) (λ g so. options_so rest g so)))
+    flag_so : (flag : Flag) (given : Given) → InRange given → IfSome (add_flag flag given) InRange
+    flag_so State given is = none_or_so InRange _ given.state (record { input = is.input; steps = is.steps; vlen = is.vlen })
+    flag_so Counts given is = none_or_so InRange _ given.counts (record { input = is.input; steps = is.steps; vlen = is.vlen })
+    flag_so Work given is = none_or_so InRange _ given.work (record { input = is.input; steps = is.steps; vlen = is.vlen })
 
-run_so : (given : Given) → IsGivenInRange given → IsImageCommandInRange (run_with given)
+    value_so : (option : Valued) (value : List ℕ) (place : ℕ) (given : Given) → place < count → InRange given → IfSome (add_value option value place given) InRange
+    value_so Input value place given within is =
+        on_some_so InRange (λ p. p < count) (sole_value given.input (file_place value place)) (λ p. Some (record given { input = Some p }))
+        (sole_so (λ p. p < count) given.input (file_place value place) (place_so count place value within))
+        (λ p there. record { input = there; steps = is.steps; vlen = is.vlen })
+    value_so Steps value place given within is =
+        on_some_so InRange (λ n. n ≤ most_steps) (sole_value given.steps (steps_in value)) (λ n. Some (record given { steps = Some n }))
+        (sole_so (λ n. n ≤ most_steps) given.steps (steps_in value) (steps_so value))
+        (λ n few. record { input = is.input; steps = few; vlen = is.vlen })
+    value_so Vlen value place given within is =
+        on_some_so InRange (λ n. IsTrue (is_legal_vlen n)) (sole_value given.vlen (vlen_in value)) (λ n. Some (record given { vlen = Some n }))
+        (sole_so (λ n. IsTrue (is_legal_vlen n)) given.vlen (vlen_in value) (vlen_so value))
+        (λ n legal. record { input = is.input; steps = is.steps; vlen = legal })
+    value_so Agnostic value place given within is =
+        on_some_so InRange (λ p. ⊤) (sole_value given.policy (policy_in value)) (λ p. Some (record given { policy = Some p }))
+        (some_so (sole_value given.policy (policy_in value)))
+        (λ p any. record { input = is.input; steps = is.steps; vlen = is.vlen })
+
+    options_so : (words : List (List ℕ)) (place : ℕ) (given : Given) → place + length words ≤ count → InRange given → IfSome (options_after place given words) InRange
+    unfolding options_after
+    options_so [] place given within is = is
+    options_so (word ∷ []) place given within is =
+        on_some_so InRange (λ flag. ⊤) (flag_named word) (λ flag. add_flag flag given) (some_so (flag_named word)) (λ flag any. flag_so flag given is)
+    options_so (word ∷ value ∷ rest) place given within is =
+        map_or_so InRange (flag_named word) (λ flag. on_some (add_flag flag given) (λ g. options_after (place + 1) g (value ∷ rest))) _
+        (λ flag. on_some_so InRange InRange (add_flag flag given) (λ g. options_after (place + 1) g (value ∷ rest)) (flag_so flag given is)
+        (λ g so. options_so (value ∷ rest) (place + 1) g (omega (arith, within)) so))
+        (on_some_so InRange (λ option. ⊤) (valued_named word) (λ option. on_some (add_value option value (place + 1) given) (λ g. options_after (place + 2) g rest))
+        (some_so (valued_named word))
+        (λ option any. on_some_so InRange InRange (add_value option value (place + 1) given) (λ g. options_after (place + 2) g rest)
+        (value_so option value (place + 1) given (omega (arith, within)) is)
+        (λ g so. options_so rest (place + 2) g (omega (arith, within)) so)))
+
+none_so : (count : ℕ) → IsGivenInRange count none_given
+none_so count = record { input = tt; steps = tt; vlen = tt }
+
+run_so : (count : ℕ) (given : Given) → IsGivenInRange count given → IfSome (run_with given) IsImageCommandInRange
 unfolding is_legal_vlen legal_vlens
-run_so given is = record {
-  steps = unwrapped_so (λ n. n ≤ most_steps) given.steps default_steps is.steps (omega arith);
-  vlen = unwrapped_so (λ n. IsTrue (is_legal_vlen n)) given.vlen default_vlen is.vlen refl;
-}
+run_so count given is =
+    none_or_so IsImageCommandInRange _ (is_some given.input) record {
+      steps = unwrapped_so (λ n. n ≤ most_steps) given.steps default_steps is.steps (omega arith);
+      vlen = unwrapped_so (λ n. IsTrue (is_legal_vlen n)) given.vlen default_vlen is.vlen refl;
+    }
+
+-- the options of a session, and the place of its input
+record IsDebugInRange (count : ℕ) (options : DebugOptions) : Type 0 where
+  session : IsSessionInRange options
+  input : IfSome options.input (λ place. place < count)
+
+debug_so : (count : ℕ) (given : Given) → IsGivenInRange count given → IfSome (debug_with given) (IsDebugInRange count)
+unfolding is_legal_vlen legal_vlens
+debug_so count given is =
+    none_or_so (IsDebugInRange count) _ (is_some given.steps || (given.state || (given.counts || given.work))) record {
+      session = record { vlen = unwrapped_so (λ n. IsTrue (is_legal_vlen n)) given.vlen default_vlen is.vlen refl };
+      input = is.input;
+    }
+
+debug_on_so : (count : ℕ) (image : List ℕ) (rest : List (List ℕ)) → 2 + length rest ≤ count → IfSome (session_on image rest) (IsDebugInRange count)
+debug_on_so count image rest within =
+    either_so (IsDebugInRange count) (is_name image) _ None
+    (on_some_so (IsDebugInRange count) (IsGivenInRange count) (options_after first_option none_given rest) debug_with
+    (options_so count rest first_option none_given within (none_so count)) (λ given so. debug_so count given so))
+    tt
+
+debug_in_so : (count : ℕ) (words : List (List ℕ)) → 1 + length words ≤ count → IfSome (session_in words) (IsDebugInRange count)
+debug_in_so count [] within = tt
+debug_in_so count (image ∷ rest) within = debug_on_so count image rest (omega (arith, within))
+
+session_of_debug : (count : ℕ) (o : Option DebugOptions) → IfSome o (IsDebugInRange count) → IfSome o IsSessionInRange
+session_of_debug count None is = tt
+session_of_debug count (Some options) is = is.session
+
+-- what words name whose options were read
+pub run_named : (command : Option ImageCommand) (given : Given) (word : List ℕ) (rest : List (List ℕ)) → bytes_eq word (codes "run") ≡ true
+    → Some given ≡ options_after first_option none_given rest → command ≡ run_with given → command ≡ image_command_named word rest
+run_named command given word rest is found made = rw (is, ← found, made) refl
+
+pub session_named : (session : Option DebugOptions) (given : Given) (image : List ℕ) (rest : List (List ℕ)) → is_name image ≡ true
+    → Some given ≡ options_after first_option none_given rest → session ≡ debug_with given → session ≡ session_on image rest
+session_named session given image rest is found made = rw (is, ← found, made) refl
+
+-- a session that words name is in its range
+pub session_so : (session : Option DebugOptions) (words : List (List ℕ)) → session ≡ session_in words → IfSome session IsSessionInRange
+session_so session words is = rw is (session_of_debug (1 + length words) (session_in words) (debug_in_so _ words (omega arith)))
 
 check_so : (words : List (List ℕ)) → IfSome (check_with words) IsImageCommandInRange
 check_so [] = tt
@@ -220,8 +287,10 @@ check_so (word ∷ rest) = tt
 
 named_so : (word : List ℕ) (rest : List (List ℕ)) → IfSome (image_command_named word rest) IsImageCommandInRange
 named_so word rest =
+    let count : ℕ = 2 + length rest in
     either_so IsImageCommandInRange (bytes_eq word (codes "run")) _ _
-    (on_some_so IsImageCommandInRange IsGivenInRange (options_after none_given rest) (λ given. Some (run_with given)) (options_so rest none_given (record { steps = tt; vlen = tt })) (λ given so. run_so given so))
+    (on_some_so IsImageCommandInRange (IsGivenInRange count) (options_after first_option none_given rest) run_with
+    (options_so count rest first_option none_given (omega arith) (none_so count)) (λ given so. run_so count given so))
     (either_so IsImageCommandInRange (bytes_eq word (codes "check")) (check_with rest) None (check_so rest) tt)
 
 -- a command on an image that words name is in its range
@@ -229,16 +298,56 @@ pub image_command_so : (command : Option ImageCommand) (word : List ℕ) (rest :
 image_command_so command word rest is = rw is (named_so word rest)
 
 -- only words with an operand are a command on an image
-no_operand : (gen bench help : Bool) (c : Command) → (if gen then None else if bench then None else if help then Some Help else None) ≡ Some c → IsOnImage c → ⊥
-no_operand true bench help c is on = cc
-no_operand false true help c is on = cc
-no_operand false false true (OnImage c) is on = cc
-no_operand false false true (Gen w) is on = on
-no_operand false false true (Bench w) is on = on
-no_operand false false true Help is on = on
-no_operand false false false c is on = cc
+no_operand : (gen bench help debug : Bool) (c : Command) → (if gen then None else if bench then None else if help then Some Help else if debug then None else None) ≡ Some c → IsOnImage c → ⊥
+no_operand true bench help debug c is on = cc
+no_operand false true help debug c is on = cc
+no_operand false false true debug (OnImage c) is on = cc
+no_operand false false true debug (Debug c) is on = cc
+no_operand false false true debug (Gen w) is on = on
+no_operand false false true debug (Bench w) is on = on
+no_operand false false true debug Help is on = on
+no_operand false false false true c is on = cc
+no_operand false false false false c is on = cc
 
 pub has_image : (words : List (List ℕ)) (c : Command) → command_of words ≡ Some c → IsOnImage c → 1 < length words
 has_image [] c is on = absurd (cc)
-has_image (word ∷ []) c is on = absurd (no_operand (bytes_eq word (codes "gen")) (bytes_eq word (codes "bench")) (bytes_eq word (codes "help")) c is on)
+has_image (word ∷ []) c is on =
+    absurd (no_operand (bytes_eq word (codes "gen")) (bytes_eq word (codes "bench")) (bytes_eq word (codes "help")) (bytes_eq word (codes "debug")) c is on)
 has_image (word ∷ next ∷ rest) c is on = omega arith
+
+-- the file of the input of a session stands among the words
+input_so : (count : ℕ) (session : Option DebugOptions) → IfSome session (IsDebugInRange count) → IfSome (on_some session (λ options. Some (Debug options))) (HasInput count)
+input_so count None is = tt
+input_so count (Some options) is = is.input
+
+image_input_so : (count : ℕ) (command : Option ImageCommand) → IfSome (on_some command (λ c. Some (OnImage c))) (HasInput count)
+image_input_so count None = tt
+image_input_so count (Some c) = tt
+
+on_image_so : (count : ℕ) (word : List ℕ) (rest : List (List ℕ)) → IfSome (on_image word rest) (HasInput count)
+on_image_so count word [] = tt
+on_image_so count word (image ∷ rest) = image_input_so count (image_command word image rest)
+
+gen_so : (count : ℕ) (w : Option Workload) → IfSome (on_some w (λ w. Some (Gen w))) (HasInput count)
+gen_so count None = tt
+gen_so count (Some w) = tt
+
+bench_so : (count : ℕ) (w : Option Workload) → IfSome (on_some w (λ w. Some (Bench w))) (HasInput count)
+bench_so count None = tt
+bench_so count (Some w) = tt
+
+help_so : (count : ℕ) (words : List (List ℕ)) → IfSome (help_with words) (HasInput count)
+help_so count [] = tt
+help_so count (word ∷ rest) = tt
+
+words_so : (words : List (List ℕ)) → IfSome (command_of words) (HasInput (length words))
+words_so [] = tt
+words_so (word ∷ rest) =
+    let count : ℕ = length (word ∷ rest) in
+    either_so (HasInput count) (bytes_eq word (codes "gen")) _ _ (gen_so count (workload_in rest))
+    (either_so (HasInput count) (bytes_eq word (codes "bench")) _ _ (bench_so count (workload_in rest))
+    (either_so (HasInput count) (bytes_eq word (codes "help")) _ _ (help_so count rest)
+    (either_so (HasInput count) (bytes_eq word (codes "debug")) _ _ (input_so count (session_in rest) (debug_in_so count rest (omega arith))) (on_image_so count word rest))))
+
+pub has_input : (words : List (List ℕ)) (command : Option Command) → command ≡ command_of words → IfSome command (HasInput (length words))
+has_input words command is = rw is (words_so words)

@@ -1,21 +1,23 @@
--- The words of a command line: `run IMAGE [--vlen N] [--steps N] [--agnostic keep|ones] [--state] [--counts] [--work]`, the
--- options in any order and each at most once, or `check IMAGE`, `gen SEED SIZE`, `bench SEED SIZE` or `help`.
-use Rattle.std.specs.Prelude.{ℕ, ◌+◌, ◌-◌, ◌*◌, ◌^◌, ◌≤◌, Bool, true, false, List, ◌∷◌, [], codes, length, ◌==◌, not, ◌&&◌, nat_lt, nat_le, if◌then◌else◌, Option, Some, None, IsTrue, ⊤}
+-- The words of a command line: `run IMAGE [--vlen N] [--steps N] [--agnostic keep|ones] [--state] [--counts] [--work]`,
+-- `debug IMAGE [--input FILE] [--vlen N] [--agnostic keep|ones]`, the options in any order and each at most once, or
+-- `check IMAGE`, `gen SEED SIZE`, `bench SEED SIZE` or `help`.
+use Rattle.std.specs.Prelude.{ℕ, ◌+◌, ◌-◌, ◌*◌, ◌^◌, ◌<◌, ◌≤◌, Bool, true, false, List, ◌∷◌, [], codes, length, ◌==◌, not, ◌&&◌, ◌||◌, nat_lt, nat_le, if◌then◌else◌, Option, Some, None, is_some, IsTrue, IfSome, ⊤}
 use Rattle.std.specs.Option.{unwrap_or, option_map_or}
 use Rattle.std.specs.Str.{bytes_eq}
 use Rattle.vtype_cfg.specs.Settings.{is_legal_vlen}
 use Rattle.vtype_cfg.specs.declared.configuration.Policy.{Policy}
 use Rattle.vtype_cfg.specs.declared.configuration.Policy.TheVariants.{Keep, Ones}
 use Rattle.command_words.specs.declared.words.Command.{Command}
-use Rattle.command_words.specs.declared.words.Command.TheVariants.{OnImage, Gen, Bench, Help}
+use Rattle.command_words.specs.declared.words.Command.TheVariants.{OnImage, Debug, Gen, Bench, Help}
 use Rattle.command_words.specs.declared.words.ImageCommand.{ImageCommand}
 use Rattle.command_words.specs.declared.words.ImageCommand.TheVariants.{Run, Check}
+use Rattle.command_words.specs.declared.words.DebugOptions.{DebugOptions}
 use Rattle.command_words.specs.declared.words.Flag.{Flag}
 use Rattle.command_words.specs.declared.words.Flag.TheVariants.{State, Counts, Work}
 use Rattle.command_words.specs.declared.words.Given.{Given}
 use Rattle.command_words.specs.declared.words.RunOptions.{RunOptions}
 use Rattle.command_words.specs.declared.words.Valued.{Valued}
-use Rattle.command_words.specs.declared.words.Valued.TheVariants.{Steps, Vlen, Agnostic}
+use Rattle.command_words.specs.declared.words.Valued.TheVariants.{Input, Steps, Vlen, Agnostic}
 use Rattle.command_words.specs.declared.words.Workload.{Workload}
 
 -- a word that names a file: it is not empty and does not begin with a dash
@@ -81,6 +83,10 @@ policy_in word =
     else if bytes_eq word (codes "ones") then Some Ones
     else None
 
+-- the value of `--input`: a word that names a file, of which the place among the words is kept
+abbrev pub file_place : List ℕ → ℕ → Option ℕ
+file_place word place = if is_name word then Some place else None
+
 -- the options that stand alone
 abbrev pub flag_named : List ℕ → Option Flag
 flag_named word =
@@ -92,7 +98,8 @@ flag_named word =
 -- the options whose value is the next word
 abbrev pub valued_named : List ℕ → Option Valued
 valued_named word =
-    if bytes_eq word (codes "--steps") then Some Steps
+    if bytes_eq word (codes "--input") then Some Input
+    else if bytes_eq word (codes "--steps") then Some Steps
     else if bytes_eq word (codes "--vlen") then Some Vlen
     else if bytes_eq word (codes "--agnostic") then Some Agnostic
     else None
@@ -108,36 +115,50 @@ add_flag State given = if given.state then None else Some (record given { state 
 add_flag Counts given = if given.counts then None else Some (record given { counts = true })
 add_flag Work given = if given.work then None else Some (record given { work = true })
 
-abbrev pub add_value : Valued → List ℕ → Given → Option Given
-add_value Steps value given = on_some (sole_value given.steps (steps_in value)) (λ n. Some (record given { steps = Some n }))
-add_value Vlen value given = on_some (sole_value given.vlen (vlen_in value)) (λ n. Some (record given { vlen = Some n }))
-add_value Agnostic value given = on_some (sole_value given.policy (policy_in value)) (λ p. Some (record given { policy = Some p }))
+-- the same with a value, which stands at a place among the words
+abbrev pub add_value : Valued → List ℕ → ℕ → Given → Option Given
+add_value Input value place given = on_some (sole_value given.input (file_place value place)) (λ p. Some (record given { input = Some p }))
+add_value Steps value place given = on_some (sole_value given.steps (steps_in value)) (λ n. Some (record given { steps = Some n }))
+add_value Vlen value place given = on_some (sole_value given.vlen (vlen_in value)) (λ n. Some (record given { vlen = Some n }))
+add_value Agnostic value place given = on_some (sole_value given.policy (policy_in value)) (λ p. Some (record given { policy = Some p }))
 
--- the options of the words, with those that were given before them
-unfoldable pub options_after : Given → List (List ℕ) → Option Given
-options_after given [] = Some given
-options_after given (word ∷ []) = on_some (flag_named word) (λ flag. add_flag flag given)
-options_after given (word ∷ value ∷ rest) =
+-- the options of the words, of which the first stands at a place among all, with those that were given before them
+unfoldable pub options_after : ℕ → Given → List (List ℕ) → Option Given
+options_after place given [] = Some given
+options_after place given (word ∷ []) = on_some (flag_named word) (λ flag. add_flag flag given)
+options_after place given (word ∷ value ∷ rest) =
     option_map_or
-    (λ flag. on_some (add_flag flag given) (λ g. options_after g (value ∷ rest)))
+    (λ flag. on_some (add_flag flag given) (λ g. options_after (place + 1) g (value ∷ rest)))
     (flag_named word)
-    (on_some (valued_named word) (λ option. on_some (add_value option value given) (λ g. options_after g rest)))
+    (on_some (valued_named word) (λ option. on_some (add_value option value (place + 1) given) (λ g. options_after (place + 2) g rest)))
 
 -- nothing is given
 abbrev pub none_given : Given
-none_given = record { steps = None; vlen = None; policy = None; state = false; counts = false; work = false }
+none_given = record { input = None; steps = None; vlen = None; policy = None; state = false; counts = false; work = false }
 
--- a run with these options
-abbrev pub run_with : Given → ImageCommand
+-- the place of the first word after the operand of a command on an image
+abbrev pub first_option : ℕ
+first_option = 2
+
+-- a run with these options, of which none is the file of an input
+abbrev pub run_with : Given → Option ImageCommand
 run_with given =
-    Run record {
+    if is_some given.input then None
+    else
+    Some (Run record {
       steps = unwrap_or given.steps default_steps;
       state = given.state;
       counts = given.counts;
       work = given.work;
       vlen = unwrap_or given.vlen default_vlen;
       policy = unwrap_or given.policy Keep;
-    }
+    })
+
+-- a session with these options, of which none is of a run alone
+abbrev pub debug_with : Given → Option DebugOptions
+debug_with given =
+    if is_some given.steps || (given.state || (given.counts || given.work)) then None
+    else Some record { input = given.input; vlen = unwrap_or given.vlen default_vlen; policy = unwrap_or given.policy Keep }
 
 -- a check takes no options
 abbrev pub check_with : List (List ℕ) → Option ImageCommand
@@ -147,7 +168,7 @@ check_with (word ∷ rest) = None
 -- the command on an image of its first word, with its operand and the words after it
 abbrev pub image_command_named : List ℕ → List (List ℕ) → Option ImageCommand
 image_command_named word rest =
-    if bytes_eq word (codes "run") then on_some (options_after none_given rest) (λ given. Some (run_with given))
+    if bytes_eq word (codes "run") then on_some (options_after first_option none_given rest) run_with
     else if bytes_eq word (codes "check") then check_with rest
     else None
 
@@ -157,6 +178,14 @@ image_command word image rest = if is_name image then image_command_named word r
 abbrev pub on_image : List ℕ → List (List ℕ) → Option Command
 on_image word [] = None
 on_image word (image ∷ rest) = on_some (image_command word image rest) (λ command. Some (OnImage command))
+
+-- the session of the words after its command: its operand and its options
+abbrev pub session_on : List ℕ → List (List ℕ) → Option DebugOptions
+session_on image rest = if is_name image then on_some (options_after first_option none_given rest) debug_with else None
+
+abbrev pub session_in : List (List ℕ) → Option DebugOptions
+session_in [] = None
+session_in (image ∷ rest) = session_on image rest
 
 -- the seed of a workload is a number of 64 bits
 abbrev pub most_seed : ℕ
@@ -189,6 +218,7 @@ command_named word rest =
     if bytes_eq word (codes "gen") then on_some (workload_in rest) (λ w. Some (Gen w))
     else if bytes_eq word (codes "bench") then on_some (workload_in rest) (λ w. Some (Bench w))
     else if bytes_eq word (codes "help") then help_with rest
+    else if bytes_eq word (codes "debug") then on_some (session_in rest) (λ options. Some (Debug options))
     else on_image word rest
 
 abbrev pub command_of : List (List ℕ) → Option Command
@@ -198,6 +228,10 @@ command_of (word ∷ rest) = command_named word rest
 -- the steps are in their range, and a vector register may have the length
 pub record AreInRange (options : RunOptions) : Type 0 where
   pub steps : options.steps ≤ most_steps
+  pub vlen : IsTrue (is_legal_vlen options.vlen)
+
+-- a vector register of a session may have the length
+pub record IsSessionInRange (options : DebugOptions) : Type 0 where
   pub vlen : IsTrue (is_legal_vlen options.vlen)
 
 -- a workload has some blocks, and not too many
@@ -212,6 +246,7 @@ IsImageCommandInRange Check = ⊤
 
 abbrev pub IsInRange : Command → Type 0
 IsInRange (OnImage command) = IsImageCommandInRange command
+IsInRange (Debug options) = IsSessionInRange options
 IsInRange (Gen w) = IsWorkloadInRange w
 IsInRange (Bench w) = IsWorkloadInRange w
 IsInRange Help = ⊤
@@ -219,6 +254,12 @@ IsInRange Help = ⊤
 -- a command on an image
 abbrev pub IsOnImage : Command → Type 0
 IsOnImage (OnImage command) = ⊤
+IsOnImage (Debug options) = ⊤
 IsOnImage (Gen w) = ⊥
 IsOnImage (Bench w) = ⊥
 IsOnImage Help = ⊥
+
+-- the file of the input of a session, where it has one, is named by one of so many words
+abbrev pub HasInput : ℕ → Command → Type 0
+HasInput count (Debug options) = IfSome options.input (λ place. place < count)
+HasInput count command = ⊤

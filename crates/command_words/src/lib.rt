@@ -6,4 +6,4 @@ mod help;
 mod words;
 
 pub use help::help_lines;
-pub use words::{Command, ImageCommand, RunOptions, Workload, command_of};
+pub use words::{Command, DebugOptions, ImageCommand, RunOptions, Workload, command_of};

@@ -1,7 +1,7 @@
 // The words of a command line, read by hand.
-ghost use Rattle.std.specs.Prelude.{◌≡◌, ◌≤◌, ◌<◌, length, map, string_bytes, IfSome};
+ghost use Rattle.std.specs.Prelude.{◌≡◌, ◌+◌, ◌^◌, ◌≤◌, ◌<◌, length, map, string_bytes, IfSome};
 ghost use Rattle.vtype_cfg.specs.Settings.{is_legal_vlen as is_legal};
-ghost use Rattle.command_words.specs.Grammar.{is_name, digit, digits_after, in_range, number_in, steps_in, vlen_in, policy_in, sole_value as sole_of, flag_named as named_flag, valued_named as named_valued, add_flag, add_value, options_after as options_from, run_with as run_of, image_command as image_command_of, image_command_named as named_image_command, size_in, workload_in, IsWorkloadInRange, command_named as named_command, command_of as command, IsInRange, IsImageCommandInRange, IsOnImage};
+ghost use Rattle.command_words.specs.Grammar.{is_name, digit, digits_after, in_range, number_in, steps_in, vlen_in, policy_in, sole_value as sole_of, flag_named as named_flag, valued_named as named_valued, add_flag, add_value, options_after as options_from, run_with as run_of, debug_with as debug_of, image_command as image_command_of, image_command_named as named_image_command, session_in, size_in, workload_in, file_place as file_at, IsWorkloadInRange, command_named as named_command, command_of as command, IsInRange, IsImageCommandInRange, IsSessionInRange, HasInput, IsOnImage};
 
 use vtype_cfg::Policy;
 
@@ -27,6 +27,9 @@ const MOST_VLEN: u64 = 65_536;
 
 const DEFAULT_VLEN: u32 = 1024;
 
+// The place among the words of the first one after the operand of a command on an image.
+const FIRST_OPTION: usize = 2;
+
 /// How an image is run.
 #[derive(Clone, Copy, Debug, PartialEq, Eq)]
 pub struct RunOptions {
@@ -38,6 +41,17 @@ pub struct RunOptions {
     pub counts: bool,
     /// Whether the work rows and the tags of the slices are shown at the end.
     pub work: bool,
+    /// The length of a vector register in bits.
+    pub vlen: u32,
+    /// What an agnostic element of a vector register is left as.
+    pub policy: Policy,
+}
+
+/// How a session of the debugger is held.
+#[derive(Clone, Copy, Debug, PartialEq, Eq)]
+pub struct DebugOptions {
+    /// The place among the words of the one that names the file of the guest's input, where it has one.
+    pub input: Option<usize>,
     /// The length of a vector register in bits.
     pub vlen: u32,
     /// What an agnostic element of a vector register is left as.
@@ -67,6 +81,8 @@ pub struct Workload {
 pub enum Command {
     /// A command on the image that the next word names.
     OnImage(ImageCommand),
+    /// Holds a session of the debugger on the image that the next word names.
+    Debug(DebugOptions),
     /// Writes the image of a workload.
     Gen(Workload),
     /// Runs a workload, and shows what that took.
@@ -86,14 +102,16 @@ enum Flag {
 // An option whose value is the next word.
 #[derive(Clone, Copy)]
 enum Valued {
+    Input,
     Steps,
     Vlen,
     Agnostic,
 }
 
 // The options that were given so far.
-#[derive(Clone, Copy, Default)]
+#[derive(Clone, Copy)]
 struct Given {
+    input: Option<usize>,
     steps: Option<u64>,
     vlen: Option<u32>,
     policy: Option<Policy>,
@@ -101,6 +119,17 @@ struct Given {
     counts: bool,
     work: bool,
 }
+
+// No option.
+const NONE_GIVEN: Given = Given {
+    input: None,
+    steps: None,
+    vlen: None,
+    policy: None,
+    state: false,
+    counts: false,
+    work: false,
+};
 
 // Whether a word names a file.
 fn names_file(word: &str) -> bool
@@ -188,6 +217,13 @@ fn policy_of(word: &str) -> Option<Policy>
     }
 }
 
+// The place of a word, where it names a file.
+fn file_place(word: &str, place: usize) -> Option<usize>
+    ensures { result ≡ file_at word.now place }
+{
+    if names_file(word) { Some(place) } else { None }
+}
+
 // The option that stands alone of this name.
 fn flag_named(word: &str) -> Option<Flag>
     ensures { result ≡ named_flag word.now }
@@ -205,6 +241,7 @@ fn valued_named(word: &str) -> Option<Valued>
     ensures { result ≡ named_valued word.now }
 {
     match word {
+        "--input" => Some(Valued::Input),
         "--steps" => Some(Valued::Steps),
         "--vlen" => Some(Valued::Vlen),
         "--agnostic" => Some(Valued::Agnostic),
@@ -241,11 +278,15 @@ impl Given {
         }
     }
 
-    // These options and one more with its value.
-    fn with_value(self, option: Valued, value: &str) -> Option<Given>
-        ensures { result ≡ add_value option value.now self }
+    // These options and one more with its value, which stands at a place among the words.
+    fn with_value(self, option: Valued, value: &str, place: usize) -> Option<Given>
+        ensures { result ≡ add_value option value.now place self }
     {
         match option {
+            Valued::Input => Some(Given {
+                input: Some(sole_value(self.input, file_place(value, place))?),
+                ..self
+            }),
             Valued::Steps => Some(Given {
                 steps: Some(sole_value(self.steps, steps_of(value))?),
                 ..self
@@ -262,32 +303,51 @@ impl Given {
     }
 }
 
-// The options of the words, with those that were given before them.
-fn options_after(words: &[String], given: Given) -> Option<Given>
-    ensures { result ≡ options_from given (map string_bytes words.now) }
+// The options of the words, of which the first stands at a place among all, with those that were given before them.
+fn options_after(words: &[String], place: usize, given: Given) -> Option<Given>
+    requires { place + length words.now < 2 ^ 63 }
+    ensures { result ≡ options_from place given (map string_bytes words.now) }
 {
     let [word, rest @ ..] = words else {
         return Some(given);
     };
     if let Some(flag) = flag_named(word.as_str()) {
-        return options_after(rest, given.with_flag(flag)?);
+        return options_after(rest, place + 1, given.with_flag(flag)?);
     }
     let option = valued_named(word.as_str())?;
     let [value, rest @ ..] = rest else {
         return None;
     };
-    options_after(rest, given.with_value(option, value.as_str())?)
+    let given = given.with_value(option, value.as_str(), place + 1)?;
+    options_after(rest, place + 2, given)
 }
 
-// The run with these options.
-fn run_with(given: Given) -> ImageCommand
+// The run with these options. It has no file of an input.
+fn run_with(given: Given) -> Option<ImageCommand>
     ensures { result ≡ run_of given }
 {
-    ImageCommand::Run(RunOptions {
+    if given.input.is_some() {
+        return None;
+    }
+    Some(ImageCommand::Run(RunOptions {
         steps: given.steps.unwrap_or(DEFAULT_STEPS),
         state: given.state,
         counts: given.counts,
         work: given.work,
+        vlen: given.vlen.unwrap_or(DEFAULT_VLEN),
+        policy: given.policy.unwrap_or(Policy::Keep),
+    }))
+}
+
+// The session with these options. It has no budget of steps, and shows nothing at its end.
+fn debug_with(given: Given) -> Option<DebugOptions>
+    ensures { result ≡ debug_of given }
+{
+    if given.steps.is_some() || given.state || given.counts || given.work {
+        return None;
+    }
+    Some(DebugOptions {
+        input: given.input,
         vlen: given.vlen.unwrap_or(DEFAULT_VLEN),
         policy: given.policy.unwrap_or(Policy::Keep),
     })
@@ -298,7 +358,7 @@ fn image_command_named(word: &str, rest: &[String]) -> Option<ImageCommand>
     ensures { result ≡ named_image_command word.now (map string_bytes rest.now) }
 {
     if word == "run" {
-        return Some(run_with(options_after(rest, Given::default())?));
+        return run_with(options_after(rest, FIRST_OPTION, NONE_GIVEN)?);
     }
     if word == "check" && rest.is_empty() {
         return Some(ImageCommand::Check);
@@ -314,6 +374,21 @@ fn image_command(word: &str, image: &str, rest: &[String]) -> Option<ImageComman
 {
     if names_file(image) {
         image_command_named(word, rest)
+    } else {
+        None
+    }
+}
+
+// The session of the words after its command: its operand and its options.
+fn session_of(words: &[String]) -> Option<DebugOptions>
+    ensures session { result ≡ session_in (map string_bytes words.now) }
+    ensures ranges { IfSome result IsSessionInRange }
+{
+    let [image, rest @ ..] = words else {
+        return None;
+    };
+    if names_file(image.as_str()) {
+        debug_with(options_after(rest, FIRST_OPTION, NONE_GIVEN)?)
     } else {
         None
     }
@@ -361,6 +436,9 @@ fn command_named(word: &str, rest: &[String]) -> Option<Command>
             None
         };
     }
+    if word == "debug" {
+        return Some(Command::Debug(session_of(rest)?));
+    }
     let [image, rest @ ..] = rest else {
         return None;
     };
@@ -374,6 +452,8 @@ pub fn command_of(words: &[String]) -> Option<Command>
     ensures ranges { IfSome result IsInRange }
     // A command on an image has the word that names it.
     ensures operand { IfSome result (λ command. IsOnImage command → 1 < length words.now) }
+    // So has a session the word that names the file of its input, where it has one.
+    ensures input { IfSome result (HasInput (length words.now)) }
 {
     let [word, rest @ ..] = words else {
         return None;
