@@ -32,7 +32,6 @@ EDGES = [0x0000FFF0, 0x00010000, CODE, 0x00010FF8, 0x00011000, 0x01010FF8, 0x7FE
 FUNCT6 = [0, 2, 9, 11, 37, 24]
 NAMES = ["step", "cont", "break", "regs", "vregs", "vcsr", "mem", "slice", "tags", "micro", "ustep", "map", "quit"]
 EXAMPLES = os.path.join(os.path.dirname(__file__), "..", "examples", "images")
-REAL_STEPS = 100000
 
 
 def memory_word(rng):
