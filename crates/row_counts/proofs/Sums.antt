@@ -1,17 +1,8 @@
--- Sums modulo a number, sums of bits with any values, and folds that add.
-use Rattle.std.proofs.Common.{◌≡◌, ℕ, zero, suc, ◌+◌, ◌*◌, ◌%◌, ◌^◌, ◌<◌, Bool, true, false, cond, ◌&&◌, refl, sym, ◌∙◌, ap, arith}
-use Rattle.std.proofs.Math.Nat.{add-mod}
+-- Sums of bits with any values, and folds that add.
+use Rattle.std.proofs.Common.{◌≡◌, ℕ, zero, suc, ◌+◌, ◌*◌, ◌^◌, ◌<◌, Bool, true, false, cond, ◌&&◌, refl, sym, ◌∙◌, ap, arith}
 use Rattle.bit_laws.specs.Numbers.{number}
 use Rattle.fold_laws.specs.Folds.{total, fold_chosen}
 use Rattle.fold_laws.proofs.Totals.{total-same, total-none, total-add, total-times}
-
--- terms that agree modulo a number have sums that do
-pub total-mod : (m n : ℕ) (f g : ℕ → ℕ) → ((k : ℕ) → k < n → f k % m ≡ g k % m) → total n f % m ≡ total n g % m
-unfolding total
-total-mod m zero f g same = refl
-total-mod m (suc n) f g same =
-    add-mod (total n f) (f n) m
-    ∙ rw (total-mod m n f g (λ k l. same k (omega arith)), same n (omega arith)) (sym (add-mod (total n g) (g n) m))
 
 -- numbers of bits of which bit j counts for `worth j`, and their sums by the bits
 unfoldable pub worth_of : (w : ℕ) (worth : ℕ → ℕ) (bits : ℕ → Bool) → ℕ
