@@ -7,6 +7,6 @@ cape=${1:-$top/crates/cape/out/cape}
 need_built "$cape" cape
 need_beside "$model"
 
-for benchmark in scalar vector pages; do
+for benchmark in scalar vector pages workloads; do
     "$top/bench/$benchmark.sh" "$cape" "${2:-5}"
 done | table

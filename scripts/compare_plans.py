@@ -23,6 +23,9 @@ OPI_FORMS = [0, 4, 3]
 OPM_FORMS = [2, 6]
 # The funct6 of the instructions whose vs1 names the operation, and the fields that do.
 UNARY = {16: [0, 16, 17], 18: [4, 5, 6, 7, 4, 5, 6, 7], 20: [1, 2, 3, 16, 17]}
+# Few of the words whose vs2 is twice as wide are legal, so so many times as many are asked for: vnsrl, vnsra, vnclipu, vnclip.
+NARROWING = range(44, 48)
+MORE = 4
 # Products and quotients take long programs, so their groups have one register, but for one question of so many.
 LONG = set(range(32, 64))
 ONE_IN = 8
@@ -36,6 +39,11 @@ VSTART, VXRM = 0x008, 0x00A
 def operations_of(funct6, form):
     """The fields vs1 that name an operation, or one of no number where the field names a register."""
     return UNARY.get(funct6, [None]) if form == OPM_FORMS[0] else [None]
+
+
+def questions_of(funct6, form):
+    more = MORE if form in OPI_FORMS and funct6 in NARROWING else 1
+    return QUESTIONS * more * len(operations_of(funct6, form))
 
 
 def word_of(draw, funct6, form):
@@ -63,7 +71,7 @@ def questions():
     for forms in (OPI_FORMS, OPM_FORMS):
         for form in forms:
             for funct6 in range(64):
-                for number in range(QUESTIONS * len(operations_of(funct6, form))):
+                for number in range(questions_of(funct6, form)):
                     vtype = setting_of(draw, funct6, form)
                     vlen = draw.choice(LENGTHS)
                     most = most_elements(vtype, vlen)

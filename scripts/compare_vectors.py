@@ -79,7 +79,9 @@ class Resized(typing.NamedTuple):
 
 
 QUARTER, HALF, SAME, TWICE = 1, 2, 4, 8
+CLIPS = [Resized(funct6, FORMS, 0, SAME, TWICE) for funct6 in (46, 47)]  # vnclipu, vnclip
 RESIZED = [
+    *CLIPS,
     *(Resized(funct6, FORMS, 0, SAME, TWICE) for funct6 in (44, 45)),  # vnsrl, vnsra
     *(Resized(funct6, [V, X], PRODUCT, TWICE, SAME) for funct6 in (48, 49, 50, 51)),  # vwaddu, vwadd, vwsubu, vwsub
     *(Resized(funct6, [V, X], PRODUCT, TWICE, TWICE) for funct6 in (52, 53, 54, 55)),  # the same with a wide vs2
@@ -344,14 +346,18 @@ class Program:
     def fixed_word(self):
         """A legal word of one of the kinds in fixed point, often under a rounding mode and a flag that are written before."""
         rng = self.rng
-        if rng.random() < 0.6:
-            self.rounding()
-        if rng.random() < 0.4:
-            self.words.append(csr_word(VXSAT, rng.choice([0, 0, 0, 1]), 5))
+        self.fixed_state()
         kind = rng.choice(FIXED)
         form, vs2, vs1 = self.sources(kind)
         unmasked = rng.choice(kind.unmasked)
         return kind.word(unmasked, vs2, vs1, form, self.destination(kind, unmasked, form, vs2, vs1))
+
+    def fixed_state(self):
+        """Often writes a rounding mode, and a flag."""
+        if self.rng.random() < 0.6:
+            self.rounding()
+        if self.rng.random() < 0.4:
+            self.words.append(csr_word(VXSAT, self.rng.choice([0, 0, 0, 1]), 5))
 
     def rounding(self):
         """Writes the rounding mode: by an immediate, or by the low bits of a register, and sometimes together with the flag."""
@@ -394,10 +400,19 @@ class Program:
         """The kinds whose widths exist under the present setting."""
         return [kind for kind in RESIZED if self.has_width(kind.vd) and self.has_width(kind.vs2)]
 
+    def resized_kind(self, legal):
+        """One of these; before a legal clip a rounding mode and a flag are often written."""
+        kinds = self.resized_kinds()
+        clips = [kind for kind in kinds if kind in CLIPS]
+        kind = self.rng.choice(clips if clips and self.rng.random() < 0.3 else kinds)
+        if legal and kind in CLIPS:
+            self.fixed_state()
+        return kind
+
     def resized_word(self, legal):
         """A word with operands of several widths; one that is not legal shares registers as it must not, or is its mask."""
         rng = self.rng
-        kind = rng.choice(self.resized_kinds())
+        kind = self.resized_kind(legal)
         while True:
             form, unmasked = rng.choice(kind.forms), rng.choice(EITHER)
             vd = self.resized_group(kind.vd, 0)

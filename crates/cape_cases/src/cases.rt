@@ -13,10 +13,14 @@ const HEAD: &str = "case ";
 // What begins a comment.
 const COMMENT: char = '#';
 
+// What begins a line of a report that tells one of the error output.
+const ERROR_OUTPUT: &str = "err ";
+
 // The report of a case of no form.
 const NO_FORM: &str = "form\n";
 
-/// What a case gave so far: the file `A`, the input, the calls of devices that fail, and what is shown of a machine.
+/// What a case gave so far: the file `A`, the input, the calls of devices that fail, what is shown of a machine, and what
+/// lines of the error output begin with that are told. Where that is nothing, all are told.
 #[derive(Drop)]
 pub(crate) struct Case {
     pub image: Vec<u32>,
@@ -28,6 +32,7 @@ pub(crate) struct Case {
     pub out_fails: Vec<(u64, usize)>,
     pub err_fails: Vec<(u64, usize)>,
     pub shown: Vec<Shown>,
+    pub only: Vec<String>,
 }
 
 impl Case {
@@ -43,6 +48,7 @@ impl Case {
             out_fails: Vec::new(alloc),
             err_fails: Vec::new(alloc),
             shown: Vec::new(alloc),
+            only: Vec::new(alloc),
         }
     }
 
@@ -74,12 +80,36 @@ impl Case {
         Ok(file)
     }
 
+    // Whether a line of a report is told.
+    fn tells(&self, line: &str) -> bool {
+        let Some(line) = line.strip_prefix(ERROR_OUTPUT) else {
+            return true;
+        };
+        for begin in &self.only {
+            if line.starts_with(begin.as_str()) {
+                return true;
+            }
+        }
+        self.only.is_empty()
+    }
+
+    // Appends the lines of a report that are told.
+    fn push_told(&self, report: &mut String, told: &str) -> Result<(), Unread> {
+        for line in told.lines() {
+            if self.tells(line) {
+                writeln!(report, "{line}")?;
+            }
+        }
+        Ok(())
+    }
+
     // Calls the top call with these words, and appends its report.
     fn push_call(&self, alloc: Global, report: &mut String, text: &str) -> Result<(), Unread> {
         let words = words_of(alloc, text)?;
         let ended = end_of(alloc, &words, self, &self.file(alloc)?)?;
-        push_ended(report, &ended, &self.shown)?;
-        Ok(())
+        let mut told = String::new(alloc);
+        push_ended(&mut told, &ended, &self.shown)?;
+        self.push_told(report, told.as_str())
     }
 
     // Takes a line after the first.
@@ -99,6 +129,7 @@ impl Case {
             "input" => self.input = bytes_of(alloc, text)?,
             "fails" => self.push_fault(fault_of(text).ok_or(Unread::Form)?)?,
             "show" => self.push_shown(text)?,
+            "only" => self.only.push(String::from_str(alloc, text)?)?,
             "row" => self
                 .shown
                 .push(Shown::Row(row_of(text).ok_or(Unread::Form)?))?,

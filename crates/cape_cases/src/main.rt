@@ -12,6 +12,7 @@
 //! fails out N BYTES    put N of the output fails, after so many bytes; likewise `fails err N BYTES`
 //! show ITEM..          what is shown of the machine that is kept: `x5` and `v5` are registers, `setting` the vector setting
 //! row SUB ROW          a row of a subarray of the slices is shown too
+//! only TEXT            of the error output are told only lines that begin with such a text
 //! call WORD..          calls the top call with these words, and with all that the lines above it gave; `""` is the empty
 //!                      word
 //! ```

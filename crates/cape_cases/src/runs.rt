@@ -9,7 +9,7 @@ use std::alloc::{AllocError, Global};
 const FILE: &str = "A";
 
 // The bytes that an output has room for.
-const ROOM: usize = 10_000;
+const ROOM: usize = 20_000;
 
 // The most bytes that the input gives at a call.
 const INPUT_STEP: usize = 1;

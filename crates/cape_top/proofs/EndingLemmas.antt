@@ -3,6 +3,7 @@ use Rattle.std.proofs.Common.{◌≡◌, ◌⊎◌, inl, inr, ℕ, Bool, false, 
 use Rattle.std.specs.Io.KnownBytes.{Appends}
 use Rattle.std.proofs.lemmas.List.{take-append-drop}
 use Rattle.cape_io.specs.Devices.{AppendsPrefix}
+use Rattle.cam_chain.specs.ChainValue.{slices_of}
 use Rattle.elf_load.specs.declared.loaded.Loaded.{Loaded}
 use Rattle.rvv_meaning.specs.declared.Mode.{Mode}
 use Rattle.rvv_meaning.specs.declared.Mode.TheVariants.{Running, Exited, Trapped, Unbuilt}
@@ -19,13 +20,13 @@ use Rattle.report_texts.specs.Lines.{line_of}
 use Rattle.command_words.specs.declared.words.RunOptions.{RunOptions}
 use Rattle.cape_top.specs.declared.ending.Status.{Status}
 use Rattle.cape_top.specs.declared.ending.Status.TheVariants.{NoMemory}
-use Rattle.cape_top.specs.Statuses.{IsOfRun, IsFault, KeepsMachine}
+use Rattle.cape_top.specs.Statuses.{IsOfRun, IsFault}
 use Rattle.cape_io.specs.Views.{DeviceViews, Devices, SinkView}
-use Rattle.cape_top.specs.Endings.{Ending, Ends, EndsBy, IsAt, Keeps, Kept, ReadsWithin, WritesPrefixes, end_text, ending_at, ending_from, kept_after, state_if, status_for}
-use Rattle.cape_top.specs.Runs.{LoadedEnds, LoadedReads, MachineEnds, MachineReads, ShowsFirst, loaded_start, moment_ending}
-use Rattle.cape_top.proofs.StatusLemmas.{ends_so, ends_in_fault, kept_or_none, run_ended, run_of_answer}
+use Rattle.cape_top.specs.Endings.{Ending, Ends, EndsBy, IsAt, Keeps, Kept, ReadsWithin, WritesPrefixes, ending_at, ending_from, kept_after, shown_after, status_for}
+use Rattle.cape_top.specs.Runs.{LoadedEnds, LoadedReads, MachineEnds, MachineReads, ShowsFirst, end_of, loaded_start, moment_ending}
+use Rattle.cape_top.proofs.StatusLemmas.{ends_so, ends_in_fault, run_ended, run_of_answer}
 
-line_is_report : (mode : Mode) (n : ℕ) → line_of (step_for mode) n ≡ report_at mode n
+pub line_is_report : (mode : Mode) (n : ℕ) → line_of (step_for mode) n ≡ report_at mode n
 line_is_report Running n = refl
 line_is_report (Exited c) n = refl
 line_is_report (Trapped t) n = refl
@@ -39,17 +40,19 @@ keeps_held SaysUnbuilt k machine is = refl
 
 -- how a run ends, stated on the state of the last moment
 abbrev last_ending : RunOptions → Moment → Ending
-last_ending options m = ending_at options.state record { state = m.state; slices = m.slices; counts = m.counts }
+last_ending options m = ending_at options record { state = m.state; slices = m.slices; counts = m.counts }
 
 ending_run : (options : RunOptions) (m : Moment) → moment_ending options m ≡ last_ending options (moments m options.steps)
 ending_run options m =
     let last = moments m options.steps in
-    ap (λ (s : State). ending_at options.state record { state = s; slices = last.slices; counts = last.counts }) (sym (state_run options.steps m))
+    ap (λ (s : State). ending_at options record { state = s; slices = last.slices; counts = last.counts }) (sym (state_run options.steps m))
 
--- the text at the end is that of the last state
-end_is_report : (with_state : Bool) (machine : Held) (a : Step) (s : State) → s.core ≡ machine.core → a ≡ step_for machine.core.mode
-    → end_text a with_state machine.core ≡ report s ++ state_if with_state (step_for s.core.mode) s.core
-end_is_report with_state machine a s holds answered = rw (answered, holds, line_is_report machine.core.mode machine.core.csrs.retired) refl
+-- the text at the end is that of the last moment
+end_is_report : (options : RunOptions) (machine : Held) (a : Step) (m : Moment) → m.state.core ≡ machine.core → m.slices ≡ slices_of machine.chain → m.counts ≡ machine.chain.counts
+    → a ≡ step_for machine.core.mode
+    → end_of a options machine ≡ report m.state ++ shown_after (step_for m.state.core.mode) options m.state.core m.counts m.slices
+end_is_report options machine a m holds slices counts answered =
+    rw (answered, holds, slices, counts, line_is_report machine.core.mode machine.core.csrs.retired) refl
 
 -- the devices before a run, after it, and after the report that follows it
 abbrev pub with_report : (v v' : DeviceViews) → SinkView → Devices
@@ -60,33 +63,33 @@ module _ (options : RunOptions) (machine machine' : Held) (v v' : DeviceViews) (
     (live : machine'.live ≡ true)
     (answered : answer ≡ step_for machine'.core.mode)
   where
-    ended_by : Appends v'.err.held err.held (end_text answer options.state machine'.core) → (m : Moment) → ShowsFirst m machine v
+    ended_by : Appends v'.err.held err.held (end_of answer options machine') → (m : Moment) → ShowsFirst m machine v
         → EndsBy (status_for answer) (kept_after answer machine') (with_report v v' err) (moment_ending options m)
     ended_by put m shows =
         let t = goes m v shows in
         let s = (moments m options.steps).state in
-        let text = end_is_report options.state machine' answer s t.holds answered in
+        let text = end_is_report options machine' answer (moments m options.steps) t.holds t.slices t.counts answered in
         rw (ending_run options m) record {
           status_is = rw (answered, t.holds) refl;
           keeps = rw (answered, t.holds) (keeps_held (step_for machine'.core.mode) _ machine' record { core = sym t.holds; slices = sym t.slices; counts = sym t.counts; live = live });
           leaves = t.known;
           gains_out = t.gained_out;
-          gains_err = rw (← text) (appends_more v.err.held v'.err.held err.held s.errors (end_text answer options.state machine'.core) t.gained_err put);
+          gains_err = rw (← text) (appends_more v.err.held v'.err.held err.held s.errors (end_of answer options machine') t.gained_err put);
         }
 
     -- the end was written
     pub machine_ended : (s : Status) (kept : Option Held) → s ≡ status_for answer → kept ≡ kept_after answer machine'
-        → Appends v'.err.held err.held (end_text answer options.state machine'.core) → MachineEnds machine options (with_report v v' err) s kept
+        → Appends v'.err.held err.held (end_of answer options machine') → MachineEnds machine options (with_report v v' err) s kept
     machine_ended s kept is keeps put =
-        λ m shows. rw (is, keeps) (ends_so _ (with_report v v' err) _ _ (run_ended _ (run_of_answer answer)) (kept_or_none answer machine') (ended_by put m shows))
+        λ m shows. rw (is, keeps) (ends_so _ (with_report v v' err) _ _ (run_ended _ (run_of_answer answer)) (ended_by put m shows))
 
-    report_prefixes : AppendsPrefix v'.err.held err.held (end_text answer options.state machine'.core) → (m : Moment) → ShowsFirst m machine v
+    report_prefixes : AppendsPrefix v'.err.held err.held (end_of answer options machine') → (m : Moment) → ShowsFirst m machine v
         → WritesPrefixes (with_report v v' err) (moment_ending options m)
     report_prefixes put m shows =
         let t = goes m v shows in
         let s = (moments m options.steps).state in
-        let line = end_text answer options.state machine'.core in
-        let text = end_is_report options.state machine' answer s t.holds answered in
+        let line = end_of answer options machine' in
+        let text = end_is_report options machine' answer (moments m options.steps) t.holds t.slices t.counts answered in
         rw (ending_run options m) record {
           gains_out = (s.output, t.gained_out, ([], sym (append-nil s.output)));
           gains_err = (
@@ -97,25 +100,26 @@ module _ (options : RunOptions) (machine machine' : Held) (v v' : DeviceViews) (
         }
 
     -- the end could not be written
-    pub report_fails : (s : Status) (kept : Option Held) → IsFault s → kept ≡ None
-        → AppendsPrefix v'.err.held err.held (end_text answer options.state machine'.core) → MachineEnds machine options (with_report v v' err) s kept
-    report_fails s kept fault none put = λ m shows. ends_in_fault _ (with_report v v' err) s kept fault none (report_prefixes put m shows)
+    pub report_fails : (s : Status) (kept : Option Held) → IsFault s
+        → AppendsPrefix v'.err.held err.held (end_of answer options machine') → MachineEnds machine options (with_report v v' err) s kept
+    report_fails s kept fault put = λ m shows. ends_in_fault _ (with_report v v' err) s kept fault (report_prefixes put m shows)
 
 run_prefixes : (options : RunOptions) (machine : Held) (d : Devices) → FaultsIn (λ m. moments m options.steps) false machine d
     → (m : Moment) → ShowsFirst m machine d.old → WritesPrefixes d (moment_ending options m)
 run_prefixes options machine d faults m shows =
     let f = faults m d.old shows in
     let t = (moments m options.steps).state in
-    let rest = report t ++ state_if options.state (step_for t.core.mode) t.core in
+    let last = moments m options.steps in
+    let rest = report t ++ shown_after (step_for t.core.mode) options t.core last.counts last.slices in
     rw (ending_run options m) record {
       gains_out = f.0;
       gains_err = (f.1.0, f.1.1, (f.1.2.0 ++ rest, rw f.1.2.1 (append_assoc f.1.0 f.1.2.0 rest)));
     }
 
 -- a device failed in the run
-pub run_fails : (options : RunOptions) (machine : Held) (d : Devices) (s : Status) (kept : Option Held) → IsFault s → kept ≡ None
+pub run_fails : (options : RunOptions) (machine : Held) (d : Devices) (s : Status) (kept : Option Held) → IsFault s
     → FaultsIn (λ m. moments m options.steps) false machine d → MachineEnds machine options d s kept
-run_fails options machine d s kept fault none faults = λ m shows. ends_in_fault _ d s kept fault none (run_prefixes options machine d faults m shows)
+run_fails options machine d s kept fault faults = λ m shows. ends_in_fault _ d s kept fault (run_prefixes options machine d faults m shows)
 
 -- a read of the run that fails is at one of its steps
 pub reads_in : (options : RunOptions) (machine : Held) (v : DeviceViews) → ReadsIn options.steps false machine v → MachineReads machine options v
@@ -133,16 +137,16 @@ module _ (options : RunOptions) (l : Loaded) (machine : Held)
     no_lack s (inl run) is = subst IsOfRun is run
     no_lack s (inr fault) is = subst IsFault is fault
 
-    ends_known : (d : Devices) (s : Status) (kept : Option Held) → IsOfRun s ⊎ IsFault s → KeepsMachine s ⊎ (kept ≡ None) → MachineEnds machine options d s kept → Opens d.old
+    ends_known : (d : Devices) (s : Status) (kept : Option Held) → IsOfRun s ⊎ IsFault s → MachineEnds machine options d s kept → Opens d.old
         → (left : Option (List ℕ)) → d.old.input.left ≡ left → Ends (option_map (λ input. ending_from options (loaded_start options l input)) left) d s kept
     unfolding slices_after counts_after
-    ends_known d s kept only keeps ends opens None is = record { ended = λ ended. tt; failed = λ failed. tt; lacking = λ lacks. absurd (no_lack s only lacks); keeps_or_none = keeps }
-    ends_known d s kept only keeps ends opens (Some input) is = ends (first_moment (loaded_start options l input)) (opens input is)
+    ends_known d s kept only ends opens None is = record { ended = λ ended. tt; failed = λ failed. tt; lacking = λ lacks. absurd (no_lack s only lacks) }
+    ends_known d s kept only ends opens (Some input) is = ends (first_moment (loaded_start options l input)) (opens input is)
 
     -- the run of a machine that shows the opening state is that of what was loaded
-    pub loaded_ends : (d : Devices) (s : Status) (kept : Option Held) → IsOfRun s ⊎ IsFault s → KeepsMachine s ⊎ (kept ≡ None) → MachineEnds machine options d s kept → Opens d.old
+    pub loaded_ends : (d : Devices) (s : Status) (kept : Option Held) → IsOfRun s ⊎ IsFault s → MachineEnds machine options d s kept → Opens d.old
         → LoadedEnds l options d s kept
-    loaded_ends d s kept only keeps ends opens = ends_known d s kept only keeps ends opens d.old.input.left refl
+    loaded_ends d s kept only ends opens = ends_known d s kept only ends opens d.old.input.left refl
 
     reads_known : (v : DeviceViews) → MachineReads machine options v → Opens v → (left : Option (List ℕ)) → v.input.left ≡ left
         → IfSome left (λ input. ReadsWithin (loaded_start options l input) options.steps)

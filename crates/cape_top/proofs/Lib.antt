@@ -3,3 +3,6 @@ pub mod ReadLemmas
 pub mod StatusLemmas
 pub mod EndingLemmas
 pub mod TopLemmas
+pub mod BenchLemmas
+pub mod CallLemmas
+pub mod CauseLemmas

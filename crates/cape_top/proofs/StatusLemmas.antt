@@ -53,30 +53,27 @@ all_of (Some a) P all = all a
 module _ (e : Option Ending) (d : Devices) (s : Status) (kept : Option Held)
   where
     -- a call that ended
-    pub ends_so : IsEnded s → KeepsMachine s ⊎ (kept ≡ None) → IfSome e (EndsBy s kept d) → Ends e d s kept
-    ends_so ended keeps by = record {
+    pub ends_so : IsEnded s → IfSome e (EndsBy s kept d) → Ends e d s kept
+    ends_so ended by = record {
       ended = λ again. by;
       failed = λ fault. absurd (ended_no_fault s ended fault);
       lacking = λ is. absurd (subst IsEnded is ended);
-      keeps_or_none = keeps;
     }
 
     -- a call whose device failed
-    pub ends_in_fault : IsFault s → kept ≡ None → IfSome e (WritesPrefixes d) → Ends e d s kept
-    ends_in_fault fault none prefixes = record {
+    pub ends_in_fault : IsFault s → IfSome e (WritesPrefixes d) → Ends e d s kept
+    ends_in_fault fault prefixes = record {
       ended = λ ended. absurd (ended_no_fault s ended fault);
       failed = λ again. prefixes;
       lacking = λ is. absurd (subst IsFault is fault);
-      keeps_or_none = inr none;
     }
 
     -- a call that lacked memory
-    pub ends_in_lack : s ≡ NoMemory → kept ≡ None → WritesNothing d → Ends e d s kept
-    ends_in_lack is none nothing = record {
+    pub ends_in_lack : s ≡ NoMemory → WritesNothing d → Ends e d s kept
+    ends_in_lack is nothing = record {
       ended = λ ended. absurd (subst IsEnded is ended);
       failed = λ fault. absurd (subst IsFault is fault);
       lacking = λ again. nothing;
-      keeps_or_none = inr none;
     }
 
 -- nothing is a prefix of any text

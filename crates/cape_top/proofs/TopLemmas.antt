@@ -15,19 +15,20 @@ use Rattle.machine.specs.Moments.{Held, cleared_control, first_moment}
 use Rattle.machine.specs.Opening.{start, memory_of}
 use Rattle.machine.proofs.Carried.{appends_none}
 use Rattle.command_words.specs.declared.words.Command.{Command}
-use Rattle.command_words.specs.declared.words.Command.TheVariants.{Run, Check}
+use Rattle.command_words.specs.declared.words.ImageCommand.{ImageCommand}
+use Rattle.command_words.specs.declared.words.ImageCommand.TheVariants.{Run, Check}
 use Rattle.command_words.specs.declared.words.RunOptions.{RunOptions}
 use Rattle.report_texts.specs.Layouts.{layout_text}
 use Rattle.cape_top.specs.declared.ending.Status.{Status}
-use Rattle.cape_top.specs.declared.ending.Status.TheVariants.{Done, WriteFault}
+use Rattle.cape_top.specs.declared.ending.Status.TheVariants.{Done, NoMemory, WriteFault}
 use Rattle.cape_top.specs.Statuses.{IsEnded}
 use Rattle.cape_io.specs.Views.{DeviceViews, Devices, Writes, devices}
 use Rattle.cape_io.specs.declared.devices.Source.{Ghosts as SourceGhosts}
 use Rattle.cape_io.specs.declared.devices.Sink.{Ghosts as SinkGhosts}
-use Rattle.cape_top.specs.Endings.{Ending, Ends, EndsBy, ReadsKnown, WritesPrefixes, command_ending, ending_from, ending_without_run, refused_ending, usage_ending}
+use Rattle.cape_top.specs.Endings.{Ending, Ends, EndsBy, ReadsKnown, WritesPrefixes, file_ending, ending_from, ending_without_run, refused_ending, usage_ending}
 use Rattle.cape_top.specs.Reading.{IsFaultOf, IsLoadedFrom, IsLoadedOf}
 use Rattle.cape_top.specs.Runs.{LoadedEnds, LoadedReads, ShowsFirst, loaded_start}
-use Rattle.cape_top.proofs.StatusLemmas.{ends_in_fault, ends_so, prefix_none, prefix_put}
+use Rattle.cape_top.proofs.StatusLemmas.{ends_in_fault, ends_in_lack, ends_so, prefix_none, prefix_put}
 
 -- the memory that is loaded
 abbrev pub memory_in : Loaded → Memory
@@ -55,17 +56,17 @@ unfolding start
 start_loaded options image input l from = rw (from.entry_pc, from.regions_are, from.heap_is, from.heap_end_is) refl
 
 -- a fact of the ending of a refused image holds of the ending of the command, as far as its file is known
-pub refused_if : (command : Command) (known : KnownFile) (left : Option (List ℕ)) (f : LoadFault) → IsFaultOf known f
-    → (P : Ending → Type 0) → P (refused_ending f left) → IfSome (command_ending command known left) P
-unfolding command_ending
+pub refused_if : (command : ImageCommand) (known : KnownFile) (left : Option (List ℕ)) (f : LoadFault) → IsFaultOf known f
+    → (P : Ending → Type 0) → P (refused_ending f left) → IfSome (file_ending command known left) P
+unfolding file_ending
 refused_if command Unknown left f is P holds = tt
 refused_if command Absent left f is P holds = absurd is
 refused_if command (Present image) left f is P holds = rw is holds
 
 -- and so of the ending of a check
 pub checked_if : (known : KnownFile) (left : Option (List ℕ)) (l : Loaded) → IsLoadedOf known l
-    → (P : Ending → Type 0) → P (ending_without_run Done (layout_text l.entry_pc (map span_of l.regions)) [] left) → IfSome (command_ending Check known left) P
-unfolding command_ending
+    → (P : Ending → Type 0) → P (ending_without_run Done (layout_text l.entry_pc (map span_of l.regions)) [] left) → IfSome (file_ending Check known left) P
+unfolding file_ending
 checked_if Unknown left l from P holds = tt
 checked_if Absent left l from P holds = absurd from
 checked_if (Present image) left l from P holds = rw (from.sound, ← from.entry_pc, ← from.regions_are) holds
@@ -76,16 +77,16 @@ pub usage_if : (ending : Command → Option Ending) (found : Option Command) (le
 usage_if ending found left none P holds = rw none holds
 
 run_of_image : (options : RunOptions) (image : List ℕ) (l : Loaded) → IsLoadedFrom image l → (left : Option (List ℕ))
-    → option_map (λ input. ending_from options (loaded_start options l input)) left ≡ command_ending (Run options) (Present image) left
-unfolding command_ending
+    → option_map (λ input. ending_from options (loaded_start options l input)) left ≡ file_ending (Run options) (Present image) left
+unfolding file_ending
 run_of_image options image l from None = rw from.sound refl
 run_of_image options image l from (Some input) = rw from.sound (ap (λ s. Some (ending_from options s)) (sym (start_loaded options image input l from)))
 
 -- the run of what was loaded ends as the command does
 pub run_ends : (options : RunOptions) (known : KnownFile) (l : Loaded) → IsLoadedOf known l → (d : Devices) (s : Status) (kept : Option Held)
-    → LoadedEnds l options d s kept → Ends (command_ending (Run options) known d.old.input.left) d s kept
-unfolding command_ending
-run_ends options Unknown l from d s kept ends = record { ended = λ ended. tt; failed = λ failed. tt; lacking = ends.lacking; keeps_or_none = ends.keeps_or_none }
+    → LoadedEnds l options d s kept → Ends (file_ending (Run options) known d.old.input.left) d s kept
+unfolding file_ending
+run_ends options Unknown l from d s kept ends = record { ended = λ ended. tt; failed = λ failed. tt; lacking = ends.lacking }
 run_ends options Absent l from d s kept ends = absurd from
 run_ends options (Present image) l from d s kept ends = subst (λ e. Ends e d s kept) (run_of_image options image l from d.old.input.left) ends
 
@@ -108,7 +109,7 @@ module _ {S O E : Type 0} (sg : SourceGhosts S) (og : SinkGhosts O) (eg : SinkGh
         → (s ≡ t) ⊎ (s ≡ WriteFault) → (s ≡ t → Writes og text true out out') → (s ≡ WriteFault → Writes og text false out out')
         → Ends e (devices sg og eg input input out out' err err) s kept
     writes_out text out out' err known (inl same) whole fails =
-        ends_so e _ s kept (rw same ended) (inr none) (known (EndsBy s kept _) record {
+        ends_so e _ s kept (rw same ended) (known (EndsBy s kept _) record {
           status_is = same;
           keeps = none;
           leaves = refl;
@@ -116,17 +117,26 @@ module _ {S O E : Type 0} (sg : SourceGhosts S) (og : SinkGhosts O) (eg : SinkGh
           gains_err = appends_none _;
         })
     writes_out text out out' err known (inr failed) whole fails =
-        ends_in_fault e _ s kept (rw failed tt) none (known (WritesPrefixes _) record {
+        ends_in_fault e _ s kept (rw failed tt) (known (WritesPrefixes _) record {
           gains_out = prefix_put _ _ text (fails failed).gained;
           gains_err = prefix_none _ _ [] (appends_none _);
         })
+
+    -- and so does one that may lack memory before
+    pub makes_out : (text : List ℕ) (out out' : O) (err : E) → ((P : Ending → Type 0) → P (ending_without_run t text [] (sg.left input)) → IfSome e P)
+        → (s ≡ t) ⊎ ((s ≡ WriteFault) ⊎ (s ≡ NoMemory)) → (s ≡ t → Writes og text true out out') → (s ≡ WriteFault → Writes og text false out out') → (s ≡ NoMemory → out' ≡ out)
+        → Ends e (devices sg og eg input input out out' err err) s kept
+    makes_out text out out' err known (inl same) whole fails lacks = writes_out text out out' err known (inl same) whole fails
+    makes_out text out out' err known (inr (inl failed)) whole fails lacks = writes_out text out out' err known (inr failed) whole fails
+    makes_out text out out' err known (inr (inr lacking)) whole fails lacks =
+        ends_in_lack e _ s kept lacking record { gains_out = rw (lacks lacking) (appends_none _); gains_err = appends_none _ }
 
     -- and so does one that only writes a text to the error output
     pub writes_err : (text : List ℕ) (out : O) (err err' : E) → ((P : Ending → Type 0) → P (ending_without_run t [] text (sg.left input)) → IfSome e P)
         → (s ≡ t) ⊎ (s ≡ WriteFault) → (s ≡ t → Writes eg text true err err') → (s ≡ WriteFault → Writes eg text false err err')
         → Ends e (devices sg og eg input input out out err err') s kept
     writes_err text out err err' known (inl same) whole fails =
-        ends_so e _ s kept (rw same ended) (inr none) (known (EndsBy s kept _) record {
+        ends_so e _ s kept (rw same ended) (known (EndsBy s kept _) record {
           status_is = same;
           keeps = none;
           leaves = refl;
@@ -134,7 +144,7 @@ module _ {S O E : Type 0} (sg : SourceGhosts S) (og : SinkGhosts O) (eg : SinkGh
           gains_err = (whole same).gained;
         })
     writes_err text out err err' known (inr failed) whole fails =
-        ends_in_fault e _ s kept (rw failed tt) none (known (WritesPrefixes _) record {
+        ends_in_fault e _ s kept (rw failed tt) (known (WritesPrefixes _) record {
           gains_out = prefix_none _ _ [] (appends_none _);
           gains_err = prefix_put _ _ text (fails failed).gained;
         })

@@ -1,5 +1,5 @@
 -- How a command ends: its status, its texts, and what it leaves, by the image and by the state that its run reaches.
-use Rattle.std.specs.Prelude.{◌≡◌, ◌<◌, ◌⊎◌, ⊤, ℕ, Bool, List, [], ◌++◌, map, Option, Some, None, true, MatchOption, IfSome, option_map, if◌then◌else◌}
+use Rattle.std.specs.Prelude.{◌≡◌, ◌<◌, ⊤, ℕ, Bool, List, [], ◌++◌, map, Option, Some, None, true, MatchOption, IfSome, option_map, if◌then◌else◌}
 use Rattle.std.specs.Io.KnownBytes.{Appends}
 use Rattle.cape_io.specs.Devices.{KnownFile, Unknown, Absent, Present}
 use Rattle.elf_load.specs.Faults.{fault}
@@ -18,17 +18,26 @@ use Rattle.machine.specs.Opening.{start}
 use Rattle.machine.specs.Views.{CallsAt, GainsPrefix}
 use Rattle.machine.specs.declared.answers.Step.{Step}
 use Rattle.machine.specs.declared.answers.Step.TheVariants.{Ran, Exited, Trapped, Unbuilt}
+use Rattle.command_words.specs.Grammar.{default_steps, default_vlen}
+use Rattle.command_words.specs.Help.{help_text}
 use Rattle.command_words.specs.declared.words.Command.{Command}
-use Rattle.command_words.specs.declared.words.Command.TheVariants.{Run, Check}
+use Rattle.command_words.specs.declared.words.Command.TheVariants.{OnImage, Gen, Bench, Help}
+use Rattle.command_words.specs.declared.words.ImageCommand.{ImageCommand}
+use Rattle.command_words.specs.declared.words.ImageCommand.TheVariants.{Run, Check}
 use Rattle.command_words.specs.declared.words.RunOptions.{RunOptions}
+use Rattle.command_words.specs.declared.words.Workload.{Workload}
 use Rattle.cape_top.specs.declared.ending.Status.{Status}
 use Rattle.cape_top.specs.declared.ending.Status.TheVariants.{Done, StepLimit, Refused, Usage, ReadFault, NoMemory, Exited as ExitedWith, Trapped as HasTrapped, Unbuilt as NotBuilt}
-use Rattle.cape_top.specs.Statuses.{IsEnded, IsFault, KeepsMachine}
+use Rattle.cape_top.specs.Statuses.{IsEnded, IsFault}
 use Rattle.cape_io.specs.Views.{Devices}
 use Rattle.cape_top.specs.Calls.{WritesNothing}
 use Rattle.report_texts.specs.Lines.{line_of, refused_line}
 use Rattle.report_texts.specs.Layouts.{layout_text}
 use Rattle.report_texts.specs.StateTexts.{state_text}
+use Rattle.run_texts.specs.CountTexts.{counts_text, bench_line}
+use Rattle.run_texts.specs.WorkTexts.{work_text}
+use Rattle.vtype_cfg.specs.declared.configuration.Policy.TheVariants.{Keep}
+use Rattle.work_gen.specs.Images.{workload}
 
 -- the status for an answer of the machine
 abbrev pub status_for : Step → Status
@@ -42,18 +51,23 @@ abbrev pub kept_after : {A : Type 0} → Step → A → Option A
 kept_after Unbuilt a = None
 kept_after _ a = Some a
 
--- the text about the state after an answer: nothing is written after the line about what is not built
-abbrev pub state_text_after : Step → Core → List ℕ
-state_text_after Unbuilt c = []
-state_text_after _ c = state_text c
+-- a text, if it is asked for
+abbrev pub text_if : Bool → List ℕ → List ℕ
+text_if wanted text = if wanted then text else []
 
--- the same, if it is asked for
-abbrev pub state_if : Bool → Step → Core → List ℕ
-state_if with_state answer c = if with_state then state_text_after answer c else []
+-- what is shown at the end of a run, as far as it is asked for: the state, what the run took, and the work rows and tags
+abbrev pub shown_text : RunOptions → Core → Counts → Slices → List ℕ
+shown_text options c counts slices =
+    text_if options.state (state_text c) ++ (text_if options.counts (counts_text c.csrs.retired counts) ++ text_if options.work (work_text slices))
 
--- the text at the end of a run: the report line, and the state if it is asked for
-abbrev pub end_text : Step → Bool → Core → List ℕ
-end_text answer with_state c = line_of answer c.csrs.retired ++ state_if with_state answer c
+-- nothing is shown after the line about what is not built
+abbrev pub shown_after : Step → RunOptions → Core → Counts → Slices → List ℕ
+shown_after Unbuilt options c counts slices = []
+shown_after _ options c counts slices = shown_text options c counts slices
+
+-- the text at the end of a run: the report line, and what is shown
+abbrev pub end_text : Step → RunOptions → Core → Counts → Slices → List ℕ
+end_text answer options c counts slices = line_of answer c.csrs.retired ++ shown_after answer options c counts slices
 
 -- what is kept of a run: its last state, the state of the slices in it, and the searches, updates and passes that it made
 pub record Kept : Type 0 where
@@ -82,8 +96,8 @@ pub record Ending : Type 0 where
   pub err : List ℕ
 
 -- how a run ends that reaches this
-abbrev pub ending_at : Bool → Kept → Ending
-ending_at with_state k =
+abbrev pub ending_at : RunOptions → Kept → Ending
+ending_at options k =
     let s = k.state in
     let answer = step_for s.core.mode in
     record {
@@ -91,7 +105,7 @@ ending_at with_state k =
       kept = kept_after answer k;
       left = Some s.input;
       out = s.output;
-      err = s.errors ++ (report s ++ state_if with_state answer s.core);
+      err = s.errors ++ (report s ++ shown_after answer options s.core k.counts k.slices);
     }
 
 -- what n steps from a state reach: the slices are those that the programs of the steps leave, and the counts are theirs
@@ -100,7 +114,7 @@ reached s n = record { state = run s n; slices = slices_after s n; counts = coun
 
 -- how a run from a state with these options ends
 abbrev pub ending_from : RunOptions → State → Ending
-ending_from options s = ending_at options.state (reached s options.steps)
+ending_from options s = ending_at options (reached s options.steps)
 
 -- how a call ends that neither reads the input nor keeps a machine, by its status and its texts
 abbrev pub ending_without_run : Status → (out err : List ℕ) → Option (List ℕ) → Ending
@@ -121,20 +135,56 @@ abbrev pub absent_ending : Option (List ℕ) → Ending
 absent_ending left = ending_without_run ReadFault [] [] left
 
 -- How a command on an image without a fault ends, as far as the input is known: a check does without it.
-abbrev pub loaded_ending : Command → List ℕ → Option (List ℕ) → Option Ending
+abbrev pub loaded_ending : ImageCommand → List ℕ → Option (List ℕ) → Option Ending
 loaded_ending (Run options) image left = option_map (λ input. ending_from options (start image options.vlen options.policy input)) left
 loaded_ending Check image left = Some (check_ending image left)
 
 -- The image's first fault refuses it.
-abbrev pub image_ending : Option LoadFault → Command → List ℕ → Option (List ℕ) → Option Ending
+abbrev pub image_ending : Option LoadFault → ImageCommand → List ℕ → Option (List ℕ) → Option Ending
 image_ending (Some f) command image left = Some (refused_ending f left)
 image_ending None command image left = loaded_ending command image left
 
--- How a command on a file ends, as far as the file and the input are known.
-unfoldable pub command_ending : Command → KnownFile → Option (List ℕ) → Option Ending
-command_ending command Unknown left = None
-command_ending command Absent left = Some (absent_ending left)
-command_ending command (Present image) left = image_ending (fault image) command image left
+-- How a command on an image ends, as far as its file and the input are known.
+unfoldable pub file_ending : ImageCommand → KnownFile → Option (List ℕ) → Option Ending
+file_ending command Unknown left = None
+file_ending command Absent left = Some (absent_ending left)
+file_ending command (Present image) left = image_ending (fault image) command image left
+
+-- the image of a workload is written
+abbrev pub gen_ending : Workload → Option (List ℕ) → Ending
+gen_ending w left = ending_without_run Done (workload w.seed w.size) [] left
+
+-- The opening state of a workload, which runs with registers of the default length, keeps agnostic elements, and has no input.
+abbrev pub workload_start : Workload → State
+workload_start w = start (workload w.seed w.size) default_vlen Keep []
+
+-- what its run reaches in the default number of steps
+unfoldable pub workload_reached : Workload → Kept
+workload_reached w = reached (workload_start w) default_steps
+
+-- How a bench ends, by the answer of the machine at what the run of the workload reaches: where it exited, the line about the
+-- run is written and the machine is kept; else the report line.
+abbrev pub bench_by : Step → Workload → Kept → Option (List ℕ) → Ending
+bench_by (Exited c) w k left =
+    record { status = Done; kept = Some k; left = left; out = bench_line w.seed w.size c k.state.core.csrs.retired k.counts; err = [] }
+bench_by answer w k left = ending_without_run (status_for answer) [] (report k.state) left
+
+abbrev pub bench_at : Workload → Kept → Option (List ℕ) → Ending
+bench_at w k left = bench_by (step_for k.state.core.mode) w k left
+
+abbrev pub bench_ending : Workload → Option (List ℕ) → Ending
+bench_ending w left = bench_at w (workload_reached w) left
+
+-- the lines of the grammar are written
+abbrev pub help_ending : Option (List ℕ) → Ending
+help_ending left = ending_without_run Done help_text [] left
+
+-- How a command ends, as far as its file and the input are known, where it needs them.
+abbrev pub command_ending : Command → KnownFile → Option (List ℕ) → Option Ending
+command_ending (OnImage command) known left = file_ending command known left
+command_ending (Gen w) known left = Some (gen_ending w left)
+command_ending (Bench w) known left = Some (bench_ending w left)
+command_ending Help known left = Some (help_ending left)
 
 -- The call ended so: its status, the machine that is kept, the input left, and what each sink gained.
 pub record EndsBy (status : Status) (kept : Option Held) (d : Devices) (e : Ending) : Type 0 where
@@ -157,8 +207,6 @@ pub record Ends (e : Option Ending) (d : Devices) (status : Status) (kept : Opti
   pub failed : IsFault status → IfSome e (WritesPrefixes d)
   -- Where memory was lacking, nothing was written.
   pub lacking : status ≡ NoMemory → WritesNothing d
-  -- A machine is kept only where the status says so.
-  pub keeps_or_none : KeepsMachine status ⊎ (kept ≡ None)
 
 -- Some step of n from a state is a call that reads bytes of the input.
 abbrev pub ReadsWithin : State → ℕ → Type 0
@@ -168,8 +216,8 @@ ReadsWithin s n = (k : ℕ) × (k < n) × CallsAt (run s k).core × IsReading (r
 abbrev pub ReadsInput : RunOptions → (image input : List ℕ) → Type 0
 ReadsInput options image input = (fault image ≡ None) × ReadsWithin (start image options.vlen options.policy input) options.steps
 
--- A command reads bytes of the input, as far as its file and the input are known. A check never does.
-abbrev pub ReadsKnown : Command → KnownFile → Option (List ℕ) → Type 0
+-- A command on an image reads bytes of the input, as far as its file and the input are known. A check never does.
+abbrev pub ReadsKnown : ImageCommand → KnownFile → Option (List ℕ) → Type 0
 ReadsKnown (Run options) (Present image) (Some input) = ReadsInput options image input
 ReadsKnown (Run options) _ _ = ⊤
 ReadsKnown Check _ _ = ⊥

@@ -2,21 +2,26 @@
 ghost use Rattle.std.specs.Prelude.{◌≡◌, ◌≤◌, ◌⊎◌, is_ok, true, None};
 ghost use Rattle.cape_io.specs.Devices.{Rose};
 ghost use Rattle.cape_io.specs.Views.{Writes, devices, views};
+ghost use Rattle.cam_chain.specs.ChainValue.{slices_of};
 ghost use Rattle.rvv_meaning.specs.declared.Mode.TheVariants.{Running};
+ghost use Rattle.report_texts.specs.StateTexts.{state_text};
+ghost use Rattle.run_texts.specs.CountTexts.{counts_text};
+ghost use Rattle.run_texts.specs.WorkTexts.{work_text};
 ghost use Rattle.command_words.specs.Grammar.{most_steps};
 ghost use Rattle.cape_top.specs.Calls.{SinkRose};
 ghost use Rattle.cape_top.specs.Statuses.{IsOfRun, IsFault, KeepsMachine};
-ghost use Rattle.cape_top.specs.Endings.{end_text, kept_after, state_if, status_for as status_of_answer};
-ghost use Rattle.cape_top.specs.Runs.{MachineEnds, MachineReads};
+ghost use Rattle.cape_top.specs.Endings.{kept_after, status_for as status_of_answer, text_if};
+ghost use Rattle.cape_top.specs.Runs.{MachineEnds, MachineReads, end_of, shown_of, shown_of_after};
 
 use crate::ending::Status;
 use cape_io::{Failed, Sink, Source};
 use command_words::RunOptions;
 use machine::{DeviceFault, Machine, Step};
 use report_texts::{report_line, write_line, write_state};
+use run_texts::{counts_lines, write_work};
 
 // The status for an answer of the machine.
-fn status_for(answer: Step) -> Status
+pub(crate) fn status_for(answer: Step) -> Status
     ensures { result ≡ status_of_answer answer }
 {
     match answer {
@@ -38,35 +43,74 @@ fn keep(kept: &mut Option<Machine>, machine: Machine, answer: Step)
     }
 }
 
-// Writes the text about the state, if it is asked for. Nothing follows the line about what is not built.
-fn write_state_after<E: Sink>(
-    machine: &Machine,
-    answer: Step,
-    with_state: bool,
-    err: &mut E,
-) -> Result<(), Failed>
-    ensures { Writes E.Sink (state_if with_state answer machine.now.core) (is_ok result) err.old err.new }
+// Writes the text about the state, if it is asked for.
+fn write_state_if<E: Sink>(machine: &Machine, wanted: bool, err: &mut E) -> Result<(), Failed>
+    ensures { Writes E.Sink (text_if wanted (state_text machine.now.core)) (is_ok result) err.old err.new }
 {
-    if !with_state {
-        return Ok(());
-    }
-    match answer {
-        Step::Unbuilt => Ok(()),
-        Step::Ran | Step::Exited(_) | Step::Trapped(_) => write_state(machine, err),
+    if wanted {
+        write_state(machine, err)
+    } else {
+        Ok(())
     }
 }
 
-// Writes the report line, and the text about the state if it is asked for.
+// Writes what the run took, if it is asked for.
+fn write_counts_if<E: Sink>(machine: &Machine, wanted: bool, err: &mut E) -> Result<(), Failed>
+    ensures { Writes E.Sink (text_if wanted (counts_text machine.now.core.csrs.retired machine.now.chain.counts)) (is_ok result) err.old err.new }
+{
+    if wanted {
+        write_line(&counts_lines(machine.retired(), machine.counts()), err)
+    } else {
+        Ok(())
+    }
+}
+
+// Writes the work rows and the tags of the slices, if they are asked for.
+fn write_work_if<E: Sink>(machine: &Machine, wanted: bool, err: &mut E) -> Result<(), Failed>
+    ensures { Writes E.Sink (text_if wanted (work_text (slices_of machine.now.chain))) (is_ok result) err.old err.new }
+{
+    if wanted {
+        write_work(machine.chain(), err)
+    } else {
+        Ok(())
+    }
+}
+
+// Writes what is asked for.
+fn write_shown<E: Sink>(machine: &Machine, options: RunOptions, err: &mut E) -> Result<(), Failed>
+    ensures { Writes E.Sink (shown_of options machine.now) (is_ok result) err.old err.new }
+{
+    write_state_if(machine, options.state, err)?;
+    write_counts_if(machine, options.counts, err)?;
+    write_work_if(machine, options.work, err)
+}
+
+// Writes what is asked for, unless the machine met what is not built: nothing follows the line about that.
+fn write_shown_after<E: Sink>(
+    machine: &Machine,
+    answer: Step,
+    options: RunOptions,
+    err: &mut E,
+) -> Result<(), Failed>
+    ensures { Writes E.Sink (shown_of_after answer options machine.now) (is_ok result) err.old err.new }
+{
+    match answer {
+        Step::Unbuilt => Ok(()),
+        Step::Ran | Step::Exited(_) | Step::Trapped(_) => write_shown(machine, options, err),
+    }
+}
+
+// Writes the report line, and what is asked for.
 fn write_end<E: Sink>(
     machine: &Machine,
     answer: Step,
-    with_state: bool,
+    options: RunOptions,
     err: &mut E,
 ) -> Result<(), Failed>
-    ensures { Writes E.Sink (end_text answer with_state machine.now.core) (is_ok result) err.old err.new }
+    ensures { Writes E.Sink (end_of answer options machine.now) (is_ok result) err.old err.new }
 {
     write_line(&report_line(answer, machine.retired()), err)?;
-    write_state_after(machine, answer, with_state, err)
+    write_shown_after(machine, answer, options, err)
 }
 
 // Runs the machine to its end, writes the report, and keeps the machine.
@@ -94,7 +138,7 @@ pub(crate) fn run_machine<S: Source, O: Sink, E: Sink>(
     match machine.run(options.steps, input, out, err, false) {
         Err(DeviceFault::ReadFault) => Status::ReadFault,
         Err(DeviceFault::WriteFault) => Status::WriteFault,
-        Ok(answer) => match write_end(&machine, answer, options.state, err) {
+        Ok(answer) => match write_end(&machine, answer, options, err) {
             Ok(()) => {
                 keep(kept, machine, answer);
                 status_for(answer)

@@ -1,110 +1,43 @@
 // The top call.
-ghost use Rattle.std.specs.Prelude.{◌≢◌, ◌≡◌, ◌<◌, ◌⊎◌, None, true, false, length, map, string_bytes};
-ghost use Rattle.cape_io.specs.Devices.{Absent, Rose, word_at};
-ghost use Rattle.cape_io.specs.Views.{Writes, devices, views};
-ghost use Rattle.elf_load.specs.Layout.{span_of};
-ghost use Rattle.command_words.specs.Grammar.{AreInRange, IsInRange, IsRun};
-ghost use Rattle.command_words.specs.declared.words.Command.{Command};
-ghost use Rattle.report_texts.specs.Layouts.{layout_text};
-ghost use Rattle.report_texts.specs.Lines.{refused_line as line_for};
-ghost use Rattle.cape_top.specs.Calls.{call, SinkRose};
-ghost use Rattle.cape_top.specs.Statuses.{IsOfRun, IsFault};
-ghost use Rattle.cape_top.specs.Runs.{LoadedEnds, LoadedReads};
-ghost use Rattle.cape_top.specs.Promises.{words_of, CallEnds, CommandEnds, HasCause, ReadCause};
+ghost use Rattle.std.specs.Prelude.{◌≡◌, ◌⊎◌, None, true, false, map, string_bytes};
+ghost use Rattle.cape_io.specs.Views.{Writes};
+ghost use Rattle.command_words.specs.Help.{help_text};
+ghost use Rattle.rvv_meaning.specs.Texts.{usage_line};
+ghost use Rattle.cape_top.specs.Calls.{call};
+ghost use Rattle.cape_top.specs.Promises.{words_of, CallEnds, HasCause};
 
 use crate::ending::Status;
-use crate::loading::{Stop, load_image};
-use crate::running::run_machine;
+use crate::images::do_on_image;
+use crate::workloads::{bench, write_workload};
 use cape_io::{Files, Sink, Source};
-use command_words::{Command, RunOptions, command_of};
-use elf_load::{LoadFault, Loaded};
+use command_words::{Command, command_of, help_lines};
 use machine::Machine;
-use report_texts::{refused_line, write_layout};
 use std::alloc::Global;
 
 // The place of the operand among the words.
 const OPERAND: usize = 1;
 
-// Writes why an image is refused.
-fn refuse<E: Sink>(fault: LoadFault, err: &mut E) -> Status
-    ensures only { (result ≡ Status.Refused fault) ⊎ (result ≡ Status.WriteFault) }
-    ensures said { result ≡ Status.Refused fault → Writes E.Sink (line_for fault) true err.old err.new }
-    ensures fails { result ≡ Status.WriteFault → Writes E.Sink (line_for fault) false err.old err.new }
+// Writes that the words are no command.
+fn write_usage<E: Sink>(err: &mut E) -> Status
+    ensures only { (result ≡ Status.Usage) ⊎ (result ≡ Status.WriteFault) }
+    ensures said { result ≡ Status.Usage → Writes E.Sink usage_line true err.old err.new }
+    ensures fails { result ≡ Status.WriteFault → Writes E.Sink usage_line false err.old err.new }
 {
-    let line = refused_line(fault);
-    match err.put(line.as_str().as_bytes()) {
-        Ok(()) => Status::Refused(fault),
+    match err.put(b"cape: usage\n") {
+        Ok(()) => Status::Usage,
         Err(_) => Status::WriteFault,
     }
 }
 
-// Runs what was loaded.
-fn run_loaded<S: Source, O: Sink, E: Sink>(
-    alloc: Global,
-    loaded: Loaded,
-    options: RunOptions,
-    input: &mut S,
-    out: &mut O,
-    err: &mut E,
-    kept: &mut Option<Machine>,
-) -> Status
-    requires range { AreInRange options }
-    requires none { kept.old ≡ None }
-    ensures ends { LoadedEnds loaded options (devices S.Source O.Sink E.Sink input.old input.new out.old out.new err.old err.new) result kept.new }
-    ensures only { IsOfRun result ⊎ (IsFault result ⊎ (result ≡ Status.NoMemory)) }
-    ensures read { result ≡ Status.ReadFault → Rose (S.faults input.old) (S.faults input.new) }
-    ensures reads { result ≡ Status.ReadFault → LoadedReads loaded options (views S.Source O.Sink E.Sink input.old out.old err.old) }
-    ensures write { result ≡ Status.WriteFault → SinkRose (devices S.Source O.Sink E.Sink input.old input.new out.old out.new err.old err.new) }
-{
-    match Machine::new(alloc, loaded, options.vlen, options.policy) {
-        Ok(machine) => run_machine(machine, options, input, out, err, kept),
-        Err(_) => Status::NoMemory,
-    }
-}
-
-// Writes what would be mapped of what was loaded.
-fn check_loaded<O: Sink>(loaded: &Loaded, out: &mut O) -> Status
+// Writes the lines that show the commands.
+fn write_help<O: Sink>(out: &mut O) -> Status
     ensures only { (result ≡ Status.Done) ⊎ (result ≡ Status.WriteFault) }
-    ensures said { result ≡ Status.Done → Writes O.Sink (layout_text loaded.now.entry_pc (map span_of loaded.now.regions)) true out.old out.new }
-    ensures fails { result ≡ Status.WriteFault → Writes O.Sink (layout_text loaded.now.entry_pc (map span_of loaded.now.regions)) false out.old out.new }
+    ensures said { result ≡ Status.Done → Writes O.Sink help_text true out.old out.new }
+    ensures fails { result ≡ Status.WriteFault → Writes O.Sink help_text false out.old out.new }
 {
-    match write_layout(loaded.entry_pc, loaded.regions.as_slice(), out) {
+    match out.put(help_lines().as_bytes()) {
         Ok(()) => Status::Done,
         Err(_) => Status::WriteFault,
-    }
-}
-
-// Does a command on the file that the word at a place names.
-fn do_command<F: Files, S: Source, O: Sink, E: Sink>(
-    alloc: Global,
-    command: Command,
-    place: usize,
-    files: &mut F,
-    input: &mut S,
-    out: &mut O,
-    err: &mut E,
-    kept: &mut Option<Machine>,
-) -> Status
-    requires place { place < length (F.names files.old) }
-    requires range { IsInRange command }
-    requires none { kept.old ≡ None }
-    ensures ends { CommandEnds command place (call F.Files S.Source O.Sink E.Sink files.old files.new input.old input.new out.old out.new err.old err.new) result kept.new }
-    ensures of_run { IsOfRun result → IsRun command }
-    ensures of_check { result ≡ Status.Done → command ≡ Command.Check }
-    ensures no_usage { result ≢ Status.Usage }
-    ensures absent { F.known_file files.old (word_at (F.names files.old) place) ≡ Absent → result ≡ Status.ReadFault }
-    ensures read { ReadCause command place (call F.Files S.Source O.Sink E.Sink files.old files.new input.old input.new out.old out.new err.old err.new) result }
-    ensures write { result ≡ Status.WriteFault → SinkRose (devices S.Source O.Sink E.Sink input.old input.new out.old out.new err.old err.new) }
-{
-    let loaded = match load_image(alloc, files, place) {
-        Ok(loaded) => loaded,
-        Err(Stop::ReadFault) => return Status::ReadFault,
-        Err(Stop::NoMemory) => return Status::NoMemory,
-        Err(Stop::Refused(fault)) => return refuse(fault, err),
-    };
-    match command {
-        Command::Run(options) => run_loaded(alloc, loaded, options, input, out, err, kept),
-        Command::Check => check_loaded(&loaded, out),
     }
 }
 
@@ -127,12 +60,13 @@ pub fn cape<F: Files, S: Source, O: Sink, E: Sink>(
     ensures ends { CallEnds (words_of words.now) (call F.Files S.Source O.Sink E.Sink files.old files.new input.old input.new out.old out.new err.old err.new) result kept.new }
     ensures cause { HasCause (words_of words.now) (call F.Files S.Source O.Sink E.Sink files.old files.new input.old input.new out.old out.new err.old err.new) result }
 {
-    let command = match command_of(words) {
-        Some(command) => command,
-        None => match err.put(b"cape: usage\n") {
-            Ok(()) => return Status::Usage,
-            Err(_) => return Status::WriteFault,
-        },
-    };
-    do_command(alloc, command, OPERAND, files, input, out, err, kept)
+    match command_of(words) {
+        Some(Command::OnImage(command)) => {
+            do_on_image(alloc, command, OPERAND, files, input, out, err, kept)
+        }
+        Some(Command::Gen(workload)) => write_workload(alloc, workload, out),
+        Some(Command::Bench(workload)) => bench(alloc, workload, out, err, kept),
+        Some(Command::Help) => write_help(out),
+        None => write_usage(err),
+    }
 }

@@ -9,12 +9,14 @@ use Rattle.std.proofs.lemmas.List.{at_drop_more, drop_all, take_all}
 use Rattle.vtype_cfg.specs.Settings.{is_legal_vlen, legal_vlens}
 use Rattle.vtype_cfg.proofs.Supported.{vlen_bounded}
 use Rattle.command_words.specs.declared.words.Command.{Command}
+use Rattle.command_words.specs.declared.words.Command.TheVariants.{OnImage, Gen, Bench, Help}
+use Rattle.command_words.specs.declared.words.ImageCommand.{ImageCommand}
 use Rattle.command_words.specs.declared.words.Flag.{Flag}
-use Rattle.command_words.specs.declared.words.Flag.TheVariants.{State}
+use Rattle.command_words.specs.declared.words.Flag.TheVariants.{State, Counts, Work}
 use Rattle.command_words.specs.declared.words.Given.{Given}
 use Rattle.command_words.specs.declared.words.Valued.{Valued}
 use Rattle.command_words.specs.declared.words.Valued.TheVariants.{Steps, Vlen, Agnostic}
-use Rattle.command_words.specs.Grammar.{on_some, digit, digits_after, number, in_range, number_in, most_steps, default_steps, default_vlen, steps_in, legal, vlen_in, policy_in, sole_value, flag_named, valued_named, add_flag, add_value, options_after, none_given, run_with, check_with, command_named, IsInRange}
+use Rattle.command_words.specs.Grammar.{on_some, digit, digits_after, number, in_range, number_in, most_steps, default_steps, default_vlen, steps_in, legal, vlen_in, policy_in, sole_value, flag_named, valued_named, add_flag, add_value, options_after, none_given, run_with, check_with, image_command_named, command_of, IsImageCommandInRange, IsOnImage}
 
 none_in_range : (most : ℕ) (o : Option ℕ) (f : ℕ → Option ℕ) → ((d : ℕ) → in_range most (f d) ≡ None) → in_range most (on_some o f) ≡ None
 none_in_range most None f none = refl
@@ -177,6 +179,8 @@ record IsGivenInRange (given : Given) : Type 0 where
 
 flag_so : (flag : Flag) (given : Given) → IsGivenInRange given → IfSome (add_flag flag given) IsGivenInRange
 flag_so State given is = none_or_so IsGivenInRange _ given.state (record { steps = is.steps; vlen = is.vlen })
+flag_so Counts given is = none_or_so IsGivenInRange _ given.counts (record { steps = is.steps; vlen = is.vlen })
+flag_so Work given is = none_or_so IsGivenInRange _ given.work (record { steps = is.steps; vlen = is.vlen })
 
 value_so : (option : Valued) (value : List ℕ) (given : Given) → IsGivenInRange given → IfSome (add_value option value given) IsGivenInRange
 value_so Steps value given is =
@@ -203,23 +207,38 @@ options_so (word ∷ value ∷ rest) given is =
     (on_some_so IsGivenInRange (λ option. ⊤) (valued_named word) (λ option. on_some (add_value option value given) (λ g. options_after g rest)) (some_so (valued_named word))
     (λ option any. on_some_so IsGivenInRange IsGivenInRange (add_value option value given) (λ g. options_after g rest) (value_so option value given is) (λ g so. options_so rest g so)))
 
-run_so : (given : Given) → IsGivenInRange given → IsInRange (run_with given)
+run_so : (given : Given) → IsGivenInRange given → IsImageCommandInRange (run_with given)
 unfolding is_legal_vlen legal_vlens
 run_so given is = record {
   steps = unwrapped_so (λ n. n ≤ most_steps) given.steps default_steps is.steps (omega arith);
   vlen = unwrapped_so (λ n. IsTrue (is_legal_vlen n)) given.vlen default_vlen is.vlen refl;
 }
 
-check_so : (words : List (List ℕ)) → IfSome (check_with words) IsInRange
+check_so : (words : List (List ℕ)) → IfSome (check_with words) IsImageCommandInRange
 check_so [] = tt
 check_so (word ∷ rest) = tt
 
-named_so : (word : List ℕ) (rest : List (List ℕ)) → IfSome (command_named word rest) IsInRange
+named_so : (word : List ℕ) (rest : List (List ℕ)) → IfSome (image_command_named word rest) IsImageCommandInRange
 named_so word rest =
-    either_so IsInRange (bytes_eq word (codes "run")) _ _
-    (on_some_so IsInRange IsGivenInRange (options_after none_given rest) (λ given. Some (run_with given)) (options_so rest none_given (record { steps = tt; vlen = tt })) (λ given so. run_so given so))
-    (either_so IsInRange (bytes_eq word (codes "check")) (check_with rest) None (check_so rest) tt)
+    either_so IsImageCommandInRange (bytes_eq word (codes "run")) _ _
+    (on_some_so IsImageCommandInRange IsGivenInRange (options_after none_given rest) (λ given. Some (run_with given)) (options_so rest none_given (record { steps = tt; vlen = tt })) (λ given so. run_so given so))
+    (either_so IsImageCommandInRange (bytes_eq word (codes "check")) (check_with rest) None (check_so rest) tt)
 
--- a command that words name is in its range
-pub command_so : (command : Option Command) (word : List ℕ) (rest : List (List ℕ)) → command ≡ command_named word rest → IfSome command IsInRange
-command_so command word rest is = rw is (named_so word rest)
+-- a command on an image that words name is in its range
+pub image_command_so : (command : Option ImageCommand) (word : List ℕ) (rest : List (List ℕ)) → command ≡ image_command_named word rest → IfSome command IsImageCommandInRange
+image_command_so command word rest is = rw is (named_so word rest)
+
+-- only words with an operand are a command on an image
+no_operand : (gen bench help : Bool) (c : Command) → (if gen then None else if bench then None else if help then Some Help else None) ≡ Some c → IsOnImage c → ⊥
+no_operand true bench help c is on = cc
+no_operand false true help c is on = cc
+no_operand false false true (OnImage c) is on = cc
+no_operand false false true (Gen w) is on = on
+no_operand false false true (Bench w) is on = on
+no_operand false false true Help is on = on
+no_operand false false false c is on = cc
+
+pub has_image : (words : List (List ℕ)) (c : Command) → command_of words ≡ Some c → IsOnImage c → 1 < length words
+has_image [] c is on = absurd (cc)
+has_image (word ∷ []) c is on = absurd (no_operand (bytes_eq word (codes "gen")) (bytes_eq word (codes "bench")) (bytes_eq word (codes "help")) c is on)
+has_image (word ∷ next ∷ rest) c is on = omega arith

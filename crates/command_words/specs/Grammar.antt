@@ -1,19 +1,22 @@
--- The words of a command line: `run IMAGE [--vlen N] [--steps N] [--agnostic keep|ones] [--state]`, the options in any
--- order and each at most once, or `check IMAGE`.
-use Rattle.std.specs.Prelude.{ℕ, ◌+◌, ◌-◌, ◌*◌, ◌≤◌, Bool, true, false, List, ◌∷◌, [], codes, length, ◌==◌, not, ◌&&◌, nat_lt, nat_le, if◌then◌else◌, Option, Some, None, IsTrue, ⊤}
+-- The words of a command line: `run IMAGE [--vlen N] [--steps N] [--agnostic keep|ones] [--state] [--counts] [--work]`, the
+-- options in any order and each at most once, or `check IMAGE`, `gen SEED SIZE`, `bench SEED SIZE` or `help`.
+use Rattle.std.specs.Prelude.{ℕ, ◌+◌, ◌-◌, ◌*◌, ◌^◌, ◌≤◌, Bool, true, false, List, ◌∷◌, [], codes, length, ◌==◌, not, ◌&&◌, nat_lt, nat_le, if◌then◌else◌, Option, Some, None, IsTrue, ⊤}
 use Rattle.std.specs.Option.{unwrap_or, option_map_or}
 use Rattle.std.specs.Str.{bytes_eq}
 use Rattle.vtype_cfg.specs.Settings.{is_legal_vlen}
 use Rattle.vtype_cfg.specs.declared.configuration.Policy.{Policy}
 use Rattle.vtype_cfg.specs.declared.configuration.Policy.TheVariants.{Keep, Ones}
 use Rattle.command_words.specs.declared.words.Command.{Command}
-use Rattle.command_words.specs.declared.words.Command.TheVariants.{Run, Check}
+use Rattle.command_words.specs.declared.words.Command.TheVariants.{OnImage, Gen, Bench, Help}
+use Rattle.command_words.specs.declared.words.ImageCommand.{ImageCommand}
+use Rattle.command_words.specs.declared.words.ImageCommand.TheVariants.{Run, Check}
 use Rattle.command_words.specs.declared.words.Flag.{Flag}
-use Rattle.command_words.specs.declared.words.Flag.TheVariants.{State}
+use Rattle.command_words.specs.declared.words.Flag.TheVariants.{State, Counts, Work}
 use Rattle.command_words.specs.declared.words.Given.{Given}
 use Rattle.command_words.specs.declared.words.RunOptions.{RunOptions}
 use Rattle.command_words.specs.declared.words.Valued.{Valued}
 use Rattle.command_words.specs.declared.words.Valued.TheVariants.{Steps, Vlen, Agnostic}
+use Rattle.command_words.specs.declared.words.Workload.{Workload}
 
 -- a word that names a file: it is not empty and does not begin with a dash
 abbrev pub is_name : List ℕ → Bool
@@ -80,7 +83,11 @@ policy_in word =
 
 -- the options that stand alone
 abbrev pub flag_named : List ℕ → Option Flag
-flag_named word = if bytes_eq word (codes "--state") then Some State else None
+flag_named word =
+    if bytes_eq word (codes "--state") then Some State
+    else if bytes_eq word (codes "--counts") then Some Counts
+    else if bytes_eq word (codes "--work") then Some Work
+    else None
 
 -- the options whose value is the next word
 abbrev pub valued_named : List ℕ → Option Valued
@@ -98,6 +105,8 @@ sole_value (Some a) value = None
 -- what is given with one more option, which was not given before
 abbrev pub add_flag : Flag → Given → Option Given
 add_flag State given = if given.state then None else Some (record given { state = true })
+add_flag Counts given = if given.counts then None else Some (record given { counts = true })
+add_flag Work given = if given.work then None else Some (record given { work = true })
 
 abbrev pub add_value : Valued → List ℕ → Given → Option Given
 add_value Steps value given = on_some (sole_value given.steps (steps_in value)) (λ n. Some (record given { steps = Some n }))
@@ -116,45 +125,100 @@ options_after given (word ∷ value ∷ rest) =
 
 -- nothing is given
 abbrev pub none_given : Given
-none_given = record { steps = None; vlen = None; policy = None; state = false }
+none_given = record { steps = None; vlen = None; policy = None; state = false; counts = false; work = false }
 
 -- a run with these options
-abbrev pub run_with : Given → Command
+abbrev pub run_with : Given → ImageCommand
 run_with given =
     Run record {
       steps = unwrap_or given.steps default_steps;
       state = given.state;
+      counts = given.counts;
+      work = given.work;
       vlen = unwrap_or given.vlen default_vlen;
       policy = unwrap_or given.policy Keep;
     }
 
 -- a check takes no options
-abbrev pub check_with : List (List ℕ) → Option Command
+abbrev pub check_with : List (List ℕ) → Option ImageCommand
 check_with [] = Some Check
 check_with (word ∷ rest) = None
 
--- the command of its first word, with the words after its operand
-abbrev pub command_named : List ℕ → List (List ℕ) → Option Command
-command_named word rest =
+-- the command on an image of its first word, with its operand and the words after it
+abbrev pub image_command_named : List ℕ → List (List ℕ) → Option ImageCommand
+image_command_named word rest =
     if bytes_eq word (codes "run") then on_some (options_after none_given rest) (λ given. Some (run_with given))
     else if bytes_eq word (codes "check") then check_with rest
     else None
 
+abbrev pub image_command : List ℕ → List ℕ → List (List ℕ) → Option ImageCommand
+image_command word image rest = if is_name image then image_command_named word rest else None
+
+abbrev pub on_image : List ℕ → List (List ℕ) → Option Command
+on_image word [] = None
+on_image word (image ∷ rest) = on_some (image_command word image rest) (λ command. Some (OnImage command))
+
+-- the seed of a workload is a number of 64 bits
+abbrev pub most_seed : ℕ
+most_seed = 2 ^ 64 - 1
+
+-- the size of a workload
+abbrev pub most_size : ℕ
+most_size = 4096
+
+abbrev pub some_size : Option ℕ → Option ℕ
+some_size None = None
+some_size (Some n) = if nat_le 1 n then Some n else None
+
+abbrev pub size_in : List ℕ → Option ℕ
+size_in word = some_size (number_in most_size word)
+
+-- a seed and a size, and nothing more
+abbrev pub workload_in : List (List ℕ) → Option Workload
+workload_in (seed ∷ size ∷ []) = on_some (number_in most_seed seed) (λ s. on_some (size_in size) (λ n. Some record { seed = s; size = n }))
+workload_in _ = None
+
+-- help stands alone
+abbrev pub help_with : List (List ℕ) → Option Command
+help_with [] = Some Help
+help_with (word ∷ rest) = None
+
+-- the command of its first word, with the words after it
+abbrev pub command_named : List ℕ → List (List ℕ) → Option Command
+command_named word rest =
+    if bytes_eq word (codes "gen") then on_some (workload_in rest) (λ w. Some (Gen w))
+    else if bytes_eq word (codes "bench") then on_some (workload_in rest) (λ w. Some (Bench w))
+    else if bytes_eq word (codes "help") then help_with rest
+    else on_image word rest
+
 abbrev pub command_of : List (List ℕ) → Option Command
-command_of (command ∷ image ∷ rest) = if is_name image then command_named command rest else None
-command_of words = None
+command_of [] = None
+command_of (word ∷ rest) = command_named word rest
 
 -- the steps are in their range, and a vector register may have the length
 pub record AreInRange (options : RunOptions) : Type 0 where
   pub steps : options.steps ≤ most_steps
   pub vlen : IsTrue (is_legal_vlen options.vlen)
 
--- what a command may be
-abbrev pub IsInRange : Command → Type 0
-IsInRange (Run options) = AreInRange options
-IsInRange Check = ⊤
+-- a workload has some blocks, and not too many
+pub record IsWorkloadInRange (w : Workload) : Type 0 where
+  pub least : 1 ≤ w.size
+  pub most : w.size ≤ most_size
 
--- the command is a run
-abbrev pub IsRun : Command → Type 0
-IsRun (Run options) = ⊤
-IsRun Check = ⊥
+-- what a command may be
+abbrev pub IsImageCommandInRange : ImageCommand → Type 0
+IsImageCommandInRange (Run options) = AreInRange options
+IsImageCommandInRange Check = ⊤
+
+abbrev pub IsInRange : Command → Type 0
+IsInRange (OnImage command) = IsImageCommandInRange command
+IsInRange (Gen w) = IsWorkloadInRange w
+IsInRange (Bench w) = IsWorkloadInRange w
+IsInRange Help = ⊤
+
+-- a command on an image
+abbrev pub IsOnImage : Command → Type 0
+IsOnImage (OnImage command) = ⊤
+IsOnImage (Gen w) = ⊥
+IsOnImage (Bench w) = ⊥
+IsOnImage Help = ⊥

@@ -1,2 +1,3 @@
--- The grammar of a command line.
+-- The grammar of a command line, and the lines that show it.
 pub mod Grammar
+pub mod Help

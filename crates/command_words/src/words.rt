@@ -1,7 +1,7 @@
 // The words of a command line, read by hand.
-ghost use Rattle.std.specs.Prelude.{◌≡◌, ◌≤◌, ◌<◌, map, string_bytes, IfSome};
+ghost use Rattle.std.specs.Prelude.{◌≡◌, ◌≤◌, ◌<◌, length, map, string_bytes, IfSome};
 ghost use Rattle.vtype_cfg.specs.Settings.{is_legal_vlen as is_legal};
-ghost use Rattle.command_words.specs.Grammar.{is_name, digit, digits_after, in_range, number_in, steps_in, vlen_in, policy_in, sole_value as sole_of, flag_named as named_flag, valued_named as named_valued, add_flag, add_value, options_after as options_from, run_with as run_of, command_named as named_command, command_of as command, IsInRange};
+ghost use Rattle.command_words.specs.Grammar.{is_name, digit, digits_after, in_range, number_in, steps_in, vlen_in, policy_in, sole_value as sole_of, flag_named as named_flag, valued_named as named_valued, add_flag, add_value, options_after as options_from, run_with as run_of, image_command as image_command_of, image_command_named as named_image_command, size_in, workload_in, IsWorkloadInRange, command_named as named_command, command_of as command, IsInRange, IsImageCommandInRange, IsOnImage};
 
 use vtype_cfg::Policy;
 
@@ -14,6 +14,9 @@ const RADIX: u64 = 10;
 const MOST_STEPS: u64 = 1_000_000_000_000;
 
 const DEFAULT_STEPS: u64 = 1_000_000_000;
+
+// The most blocks of a workload.
+const MOST_SIZE: u64 = 4096;
 
 // The lengths in bits that a vector register may have, the greatest of them, and that of a run that is given none.
 const VLENS: [u32; 12] = [
@@ -31,6 +34,10 @@ pub struct RunOptions {
     pub steps: u64,
     /// Whether the machine's state is shown at the end.
     pub state: bool,
+    /// Whether the instructions, searches, updates and passes are shown at the end.
+    pub counts: bool,
+    /// Whether the work rows and the tags of the slices are shown at the end.
+    pub work: bool,
     /// The length of a vector register in bits.
     pub vlen: u32,
     /// What an agnostic element of a vector register is left as.
@@ -39,17 +46,41 @@ pub struct RunOptions {
 
 /// A command on an image.
 #[derive(Clone, Copy, Debug, PartialEq, Eq)]
-pub enum Command {
+pub enum ImageCommand {
     /// Runs it.
     Run(RunOptions),
     /// Shows what would be mapped of it.
     Check,
 }
 
+/// The numbers that a workload is made from.
+#[derive(Clone, Copy, Debug, PartialEq, Eq)]
+pub struct Workload {
+    /// What its numbers are drawn from.
+    pub seed: u64,
+    /// How many blocks of a setting and a vector instruction it has, from 1 to 4,096.
+    pub size: u32,
+}
+
+/// A command.
+#[derive(Clone, Copy, Debug, PartialEq, Eq)]
+pub enum Command {
+    /// A command on the image that the next word names.
+    OnImage(ImageCommand),
+    /// Writes the image of a workload.
+    Gen(Workload),
+    /// Runs a workload, and shows what that took.
+    Bench(Workload),
+    /// Shows the commands.
+    Help,
+}
+
 // An option that stands alone.
 #[derive(Clone, Copy)]
 enum Flag {
     State,
+    Counts,
+    Work,
 }
 
 // An option whose value is the next word.
@@ -67,6 +98,8 @@ struct Given {
     vlen: Option<u32>,
     policy: Option<Policy>,
     state: bool,
+    counts: bool,
+    work: bool,
 }
 
 // Whether a word names a file.
@@ -161,6 +194,8 @@ fn flag_named(word: &str) -> Option<Flag>
 {
     match word {
         "--state" => Some(Flag::State),
+        "--counts" => Some(Flag::Counts),
+        "--work" => Some(Flag::Work),
         _ => None,
     }
 }
@@ -197,7 +232,12 @@ impl Given {
                 state: true,
                 ..self
             }),
-            Flag::State => None,
+            Flag::Counts if !self.counts => Some(Given {
+                counts: true,
+                ..self
+            }),
+            Flag::Work if !self.work => Some(Given { work: true, ..self }),
+            Flag::State | Flag::Counts | Flag::Work => None,
         }
     }
 
@@ -240,44 +280,103 @@ fn options_after(words: &[String], given: Given) -> Option<Given>
 }
 
 // The run with these options.
-fn run_with(given: Given) -> Command
+fn run_with(given: Given) -> ImageCommand
     ensures { result ≡ run_of given }
 {
-    Command::Run(RunOptions {
+    ImageCommand::Run(RunOptions {
         steps: given.steps.unwrap_or(DEFAULT_STEPS),
         state: given.state,
+        counts: given.counts,
+        work: given.work,
         vlen: given.vlen.unwrap_or(DEFAULT_VLEN),
         policy: given.policy.unwrap_or(Policy::Keep),
     })
 }
 
-// The command that a word names, with the words after its operand.
-fn command_named(word: &str, rest: &[String]) -> Option<Command>
-    ensures { result ≡ named_command word.now (map string_bytes rest.now) }
+// The command on an image that a word names, with the words after its operand.
+fn image_command_named(word: &str, rest: &[String]) -> Option<ImageCommand>
+    ensures { result ≡ named_image_command word.now (map string_bytes rest.now) }
 {
     if word == "run" {
         return Some(run_with(options_after(rest, Given::default())?));
     }
     if word == "check" && rest.is_empty() {
-        return Some(Command::Check);
+        return Some(ImageCommand::Check);
     }
     None
 }
 
+// The same, where the operand names a file.
+#[tactic(auto, using(crate::proofs::GrammarLemmas::image_command_so))]
+fn image_command(word: &str, image: &str, rest: &[String]) -> Option<ImageCommand>
+    ensures command { result ≡ image_command_of word.now image.now (map string_bytes rest.now) }
+    ensures ranges { IfSome result IsImageCommandInRange }
+{
+    if names_file(image) {
+        image_command_named(word, rest)
+    } else {
+        None
+    }
+}
+
+// The size of a workload that a word gives.
+fn size_of(word: &str) -> Option<u32>
+    ensures value { result ≡ size_in word.now }
+    ensures least { IfSome result (λ n. 1 ≤ n) }
+    ensures most { IfSome result (λ n. n ≤ 4096) }
+{
+    let size = number_of(word, MOST_SIZE)? as u32;
+    if size >= 1 { Some(size) } else { None }
+}
+
+// The workload of the words after a command: its seed and its size, and nothing more.
+fn workload_of(words: &[String]) -> Option<Workload>
+    ensures workload { result ≡ workload_in (map string_bytes words.now) }
+    ensures ranges { IfSome result IsWorkloadInRange }
+{
+    let [seed, size] = words else {
+        return None;
+    };
+    Some(Workload {
+        seed: number_of(seed.as_str(), u64::MAX)?,
+        size: size_of(size.as_str())?,
+    })
+}
+
+// The command that a word names, with the words after it.
+fn command_named(word: &str, rest: &[String]) -> Option<Command>
+    ensures command { result ≡ named_command word.now (map string_bytes rest.now) }
+    ensures ranges { IfSome result IsInRange }
+{
+    if word == "gen" {
+        return Some(Command::Gen(workload_of(rest)?));
+    }
+    if word == "bench" {
+        return Some(Command::Bench(workload_of(rest)?));
+    }
+    if word == "help" {
+        return if rest.is_empty() {
+            Some(Command::Help)
+        } else {
+            None
+        };
+    }
+    let [image, rest @ ..] = rest else {
+        return None;
+    };
+    Some(Command::OnImage(image_command(word, image.as_str(), rest)?))
+}
+
 /// The command of the words, where they are in the grammar.
-#[tactic(auto, using(crate::proofs::GrammarLemmas::command_so))]
+#[tactic(auto, using(crate::proofs::GrammarLemmas::has_image))]
 pub fn command_of(words: &[String]) -> Option<Command>
     ensures command { result ≡ command (map string_bytes words.now) }
     ensures ranges { IfSome result IsInRange }
+    // A command on an image has the word that names it.
+    ensures operand { IfSome result (λ command. IsOnImage command → 1 < length words.now) }
 {
-    match words {
-        [word, image, rest @ ..] => {
-            if names_file(image.as_str()) {
-                command_named(word.as_str(), rest)
-            } else {
-                None
-            }
-        }
-        _ => None,
-    }
+    let [word, rest @ ..] = words else {
+        return None;
+    };
+    command_named(word.as_str(), rest)
 }

@@ -162,7 +162,7 @@ none_held i v s splatted same = record {
     split r d = ⊎_elim (λ (l : r < d). inl l) (λ (l : d ≤ r). inr (omega arith)) (cases_lt r d)
 
 -- one register more
-next : (i : Shape) (b : Bounds) (source : ℕ → ℕ → Bool) (columns g : ℕ) (body : List MicroOp) (v : Registers) (s : Slices) → Legal i source columns → Bounded i b → s.columns ≡ columns → g < i.registers
+pub next : (i : Shape) (b : Bounds) (source : ℕ → ℕ → Bool) (columns g : ℕ) (body : List MicroOp) (v : Registers) (s : Slices) → Legal i source columns → Bounded i b → s.columns ≡ columns → g < i.registers
     → Realised i b g body → HoldsFirst i g v s
     → HoldsFirst i (suc g) v (replay (one_register i b g body) s)
 unfolding element_after

@@ -1,5 +1,5 @@
 -- When a list makes the values of a register's elements in a work row, which a commit then takes to the register.
-use Rattle.std.specs.Prelude.{◌≡◌, ℕ, ◌+◌, ◌*◌, ◌/◌, ◌<◌, ◌≤◌, Bool, true, List, ◌++◌}
+use Rattle.std.specs.Prelude.{◌≡◌, ℕ, ◌+◌, ◌*◌, ◌<◌, ◌≤◌, Bool, true, List, ◌++◌}
 use Rattle.bit_laws.specs.Numbers.{number, low}
 use Rattle.bit_rows.specs.Slices.{Slices}
 use Rattle.steer_net.specs.Network.{bit_in, is_within}
@@ -8,7 +8,7 @@ use Rattle.micro_ir.specs.declared.op.MicroOp.{MicroOp}
 use Rattle.micro_ir.specs.Replay.{replay}
 use Rattle.micro_ir.specs.Steps.{element, micros}
 use Rattle.micro_ir.specs.Pieces.{commit}
-use Rattle.micro_ir.specs.WorkRows.{active_row, scalar_row}
+use Rattle.micro_ir.specs.WorkRows.{scalar_row}
 use Rattle.frame_laws.specs.Shapes.{Shape, Bounds, element_number}
 use Rattle.frame_laws.specs.Realising.{Splatted, Windowed, Realised}
 

@@ -4,6 +4,8 @@ ghost use Rattle.frame_laws.specs.Clips.{ClipLaw};
 ghost use Rattle.frame_laws.specs.Laws.{FrameLaw, GroupLaw};
 ghost use Rattle.frame_laws.specs.Preparing.{PreparedLaw, AgreeingLaw};
 ghost use Rattle.frame_laws.specs.Shapes.{UsualBoundsLaw};
+ghost use Rattle.frame_laws.specs.Singles.{SingleLaw, SingleBytesLaw};
+ghost use Rattle.frame_laws.specs.Spans.{BoundsLaw};
 ghost use Rattle.frame_laws.specs.Costs.{TallyLaw, EvenTallyLaw, LengthLaw, RangeLaw};
 
 /// The program of an instruction leaves the registers of its meaning.
@@ -47,6 +49,23 @@ pub fn agreeing_law()
 /// The bounds of most programs fit the places of the elements.
 pub fn usual_bounds_law()
     ensures law { UsualBoundsLaw }
+{}
+
+/// The program of a group with a scalar in one element after it leaves the registers of the whole
+/// instruction.
+pub fn single_law()
+    ensures law { SingleLaw }
+{}
+
+/// The same on registers that are lists of bytes.
+pub fn single_bytes_law()
+    ensures law { SingleBytesLaw }
+{}
+
+/// The bounds of windows and fills fit the places of the elements, for any first element and any
+/// length.
+pub fn bounds_law()
+    ensures law { BoundsLaw }
 {}
 
 /// The searches, updates and passes of a program.

@@ -14,8 +14,9 @@ pub use class_laws::{
     plain_clip_law, plain_law,
 };
 pub use group_laws::{
-    agreeing_law, bits_law, bytes_law, clip_law, even_tally_law, frame_law, group_law, held_law,
-    length_law, prepared_law, range_law, tally_law, usual_bounds_law,
+    agreeing_law, bits_law, bounds_law, bytes_law, clip_law, even_tally_law, frame_law, group_law,
+    held_law, length_law, prepared_law, range_law, single_bytes_law, single_law, tally_law,
+    usual_bounds_law,
 };
 pub use mask_laws::{mask_frame_law, mask_law, mask_length_law, mask_range_law, mask_tally_law};
 pub use rows::HALVES_ROW;

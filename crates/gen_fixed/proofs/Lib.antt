@@ -14,3 +14,4 @@ pub mod Narrowing
 pub mod Wide
 pub mod Leaving
 pub mod WideCosts
+pub mod Composed

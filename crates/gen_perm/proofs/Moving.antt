@@ -86,16 +86,18 @@ puts-all op w to pos lanes register is s k col fits inside =
 
 -- ---- registers of instructions
 
-pub realises-move : (op : MicroOp) (w to : ℕ) (ops : List MicroOp) → MovesAll op w to ops → RealisesMove op w to ops
+pub realises-move : (op : MicroOp) (w to : ℕ) (ops : List MicroOp) → 0 < w → MovesAll op w to ops → RealisesMove op w to ops
 unfolding Realised MovesAll
-realises-move op w to ops all i b g width register result =
+realises-move op w to ops pos all i b g width register result =
+    let some : 0 < i.width = rw width pos in
     let here : MovesAll op i.width (i.vd + g) ops = subst (λ x. MovesAll op i.width x ops) (sym register) (subst (λ x. MovesAll op x to ops) (sym width) all) in
     λ s vl splatted windowed k col fits inside.
     let x = here s k col fits inside in
     let p = col * (32 / i.width) + k in
     record {
       active = λ on c mask.
-          x.active on ∙ ap (λ (n : ℕ). low i.width (moved_number op n (bit_in s) p)) (sym vl) ∙ ap (low i.width) (sym (result (bit_in s) p c));
+          x.active on ∙ ap (λ (n : ℕ). low i.width (moved_number op n (bit_in s) p)) (sym vl)
+          ∙ ap (low i.width) (sym (result (bit_in s) p c (sym (windowed.active k col 0 fits inside some) ∙ on 0 some)));
       idle = x.idle;
       kept = x.kept;
     }

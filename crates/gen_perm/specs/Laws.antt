@@ -44,11 +44,13 @@ unfoldable pub PutsAll : (op : MicroOp) → (w to : ℕ) → List MicroOp → Ty
 PutsAll op w to ops =
     (s : Slices) (k col : ℕ) → k * w + w ≤ 32 → col < s.columns → Puts op w to k col s (replay ops s)
 
--- The list realises a register of an instruction whose results are what the operation leaves at the elements of that register.
+-- The list realises a register of an instruction whose results are what the operation leaves at the elements of that register,
+-- where they are active.
 abbrev pub RealisesMove : (op : MicroOp) → (w to : ℕ) → List MicroOp → Type 0
 RealisesMove op w to ops =
     (i : Shape) (b : Bounds) (g : ℕ) → i.width ≡ w → i.vd + g ≡ to
-    → ((v : Registers) (p : ℕ) (c : Bool) → i.result v (first_of i g + p) c ≡ moved_number op i.vlen v p)
+    → ((v : Registers) (p : ℕ) (c : Bool) → is_within b.from i.len i.masked (v 0) (first_of i g + p) ≡ true
+    → i.result v (first_of i g + p) c ≡ moved_number op i.vlen v p)
     → Realised i b g ops
 
 -- A commit of the scalar realises a register of an instruction whose results are its scalar.

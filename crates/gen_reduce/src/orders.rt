@@ -4,6 +4,7 @@ ghost use Rattle.micro_ir.specs.WorkRows.{IsOperandRow};
 ghost use Rattle.row_counts.specs.Spans.{IsSpan};
 ghost use Rattle.row_orders.specs.declared.orders.Order.TheVariants.{Minu, Min, Maxu, Max};
 ghost use Rattle.row_orders.specs.Kinds.{order_ops};
+ghost use Rattle.row_orders.specs.Folds.{FoldsOrder};
 ghost use Rattle.row_orders.specs.Laws.{SpendsOrder};
 
 use bit_laws::Width;
@@ -21,6 +22,7 @@ pub fn emit_redminu<W: Width>(buf: &mut MicroBuf, at: &Place, span: &Span)
     ensures ops { buf.new.ops ≡ buf.old.ops ++ order_ops Minu W.BITS at.now span.now }
     ensures spare { buf.new.spare + (W.BITS * (7 * (span.now.regs + 1) + 4) + 10) ≡ buf.old.spare }
     ensures cost { SpendsOrder Minu W.BITS at.now span.now }
+    ensures folds { FoldsOrder Minu W.BITS at.now.b span.now }
 {
     emit_order::<W>(buf, at, span, Order::Minu);
 }
@@ -35,6 +37,7 @@ pub fn emit_redmin<W: Width>(buf: &mut MicroBuf, at: &Place, span: &Span)
     ensures ops { buf.new.ops ≡ buf.old.ops ++ order_ops Min W.BITS at.now span.now }
     ensures spare { buf.new.spare + (W.BITS * (7 * (span.now.regs + 1) + 4) + 10) ≡ buf.old.spare }
     ensures cost { SpendsOrder Min W.BITS at.now span.now }
+    ensures folds { FoldsOrder Min W.BITS at.now.b span.now }
 {
     emit_order::<W>(buf, at, span, Order::Min);
 }
@@ -49,6 +52,7 @@ pub fn emit_redmaxu<W: Width>(buf: &mut MicroBuf, at: &Place, span: &Span)
     ensures ops { buf.new.ops ≡ buf.old.ops ++ order_ops Maxu W.BITS at.now span.now }
     ensures spare { buf.new.spare + (W.BITS * (7 * (span.now.regs + 1) + 4) + 10) ≡ buf.old.spare }
     ensures cost { SpendsOrder Maxu W.BITS at.now span.now }
+    ensures folds { FoldsOrder Maxu W.BITS at.now.b span.now }
 {
     emit_order::<W>(buf, at, span, Order::Maxu);
 }
@@ -63,6 +67,7 @@ pub fn emit_redmax<W: Width>(buf: &mut MicroBuf, at: &Place, span: &Span)
     ensures ops { buf.new.ops ≡ buf.old.ops ++ order_ops Max W.BITS at.now span.now }
     ensures spare { buf.new.spare + (W.BITS * (7 * (span.now.regs + 1) + 4) + 10) ≡ buf.old.spare }
     ensures cost { SpendsOrder Max W.BITS at.now span.now }
+    ensures folds { FoldsOrder Max W.BITS at.now.b span.now }
 {
     emit_order::<W>(buf, at, span, Order::Max);
 }

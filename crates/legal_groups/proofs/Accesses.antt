@@ -1,35 +1,21 @@
 -- What the rules of legality say of loads and stores.
-use Rattle.std.proofs.Common.{◌≡◌, ℕ, zero, suc, ◌+◌, ◌*◌, ◌/◌, ◌%◌, ◌<◌, ◌≤◌, max, Bool, true, false, not, ◌&&◌, ◌||◌, ◌==◌, nat_le, nat_lt, IsTrue, List, [], ◌∷◌, Option, Some, None, if◌then◌else◌, refl, sym, ◌∙◌, ap, arith, ◌⊎◌, inl, inr, ⊎_elim}
-use Rattle.std.specs.List.{list_all}
-use Rattle.std.proofs.lemmas.Bool.{and_parts, or_cases, eqb-true, leb-true, lt-ltb, false≢true, not-true}
+use Rattle.std.proofs.Common.{◌≡◌, ℕ, zero, suc, ◌+◌, ◌*◌, ◌/◌, ◌<◌, ◌≤◌, max, Bool, true, false, not, ◌&&◌, ◌||◌, ◌==◌, nat_le, nat_lt, IsTrue, if◌then◌else◌, refl, sym, ap, arith, ◌⊎◌, inl, inr, ⊎_elim}
+use Rattle.std.proofs.lemmas.Bool.{or_cases, lt-ltb, false≢true, not-true}
 use Rattle.std.proofs.lemmas.Bool.Decides.{nat_tests}
 use Rattle.std.proofs.Math.Nat.{mul-le-mul_right}
 use Rattle.rvv_decode.specs.declared.instruction.VInstr.{VInstr}
 use Rattle.vtype_cfg.specs.declared.vtype.Vtype.{Vtype}
 use Rattle.vtype_cfg.specs.Settings.{is_vill_or_supported}
-use Rattle.vtype_cfg.specs.Groups.{Operand, emul_of, register_at, groups_at, whole_at, registers, group_registers, overlap}
-use Rattle.vtype_cfg.specs.Classes.{Class, load, store, indexed_load, indexed_store, whole_load, whole_store, mask_load, mask_store, Overlap, by_width, nowhere, group, row_of, class_of, operand_at, destination_of, sources_of, needs_no_setting, may_write_mask, overlap_of}
-use Rattle.vtype_cfg.specs.Legality.{has_setting, has_legal_eew, has_legal_emul, is_aligned, fits_registers, is_placed, may_start_at, if_there, are_placed, may_overlap_by_width, overlaps_legally, spares_mask, writes_legally, obeys_rules, is_legal}
-use Rattle.legal_groups.specs.Facts.{registers_for, SparesMask, FieldGroups, IndexBeside, IndexRoom, WholeRoom, MaskRoom, LegalAccessLaw}
+use Rattle.vtype_cfg.specs.Groups.{emul_of, register_at, groups_at, whole_at, registers, overlap}
+use Rattle.vtype_cfg.specs.Classes.{Class, load, store, indexed_load, indexed_store, whole_load, whole_store, mask_load, mask_store, by_width, nowhere, row_of, needs_no_setting, may_write_mask, overlap_of}
+use Rattle.vtype_cfg.specs.Legality.{has_setting, is_placed, may_overlap_by_width, overlaps_legally, spares_mask}
+use Rattle.legal_groups.specs.Facts.{registers_for, FieldGroups, IndexBeside, WholeRoom, MaskRoom, LegalAccessLaw}
 use Rattle.legal_groups.proofs.Widths.{in_force, sew-width}
 use Rattle.legal_groups.proofs.Overlaps.{same_or_apart}
-use Rattle.legal_groups.proofs.Laws.{in_setting, obeyed}
+use Rattle.legal_groups.proofs.Rules.{rules, in_setting, OperandLies, operand-lies}
+use Rattle.legal_groups.proofs.Laws.{obeyed}
 
 -- ---- operands
-
--- the registers of an operand that lies as it must
-record Lies (o : Operand) : Type 0 where
-  aligned : o.first % group_registers o ≡ 0
-  few : o.fields * group_registers o ≤ 8
-  room : o.first + o.fields * group_registers o ≤ 32
-
-lies : (o : Operand) → is_placed o ≡ true → Lies o
-unfolding is_placed is_aligned fits_registers registers
-lies o is =
-    let a = and_parts (has_legal_eew o && has_legal_emul o && (o.first % group_registers o == 0)) (nat_le (o.fields * group_registers o) 8 && nat_le (o.first + o.fields * group_registers o) 32) is in
-    let b = and_parts (has_legal_eew o && has_legal_emul o) (o.first % group_registers o == 0) a.0 in
-    let d = and_parts (nat_le (o.fields * group_registers o) 8) (nat_le (o.first + o.fields * group_registers o) 32) a.1 in
-    record { aligned = eqb-true _ 0 b.1; few = leb-true _ 8 d.0; room = leb-true _ 32 d.1 }
 
 some-group : (fields n : ℕ) → 0 < fields → 0 < fields * max 1 n
 some-group fields n some = let m : 1 * max 1 n ≤ fields * max 1 n = mul-le-mul_right (max 1 n) some in omega arith
@@ -46,36 +32,14 @@ spared class vm vt fields w (suc vd) never some spare masked = omega arith
 field-groups : (class : Class) (i : VInstr) (vt : Vtype) (d : ℕ) → needs_no_setting class ≡ false → IsTrue (is_vill_or_supported vt) → has_setting class vt ≡ true → is_placed (groups_at vt i.nf d i.vd) ≡ true → FieldGroups i vt d
 field-groups class i vt d needs setting has is =
     let there = in_setting class vt needs has in
-    let p = lies (groups_at vt i.nf d i.vd) is in
+    let p = operand-lies (groups_at vt i.nf d i.vd) is in
     record { supported = in_force vt setting there; vill = there; sew = sew-width vt setting there; few = p.few; room = p.room }
 
 whole-room : (i : VInstr) (vt : Vtype) → is_placed (whole_at i.nf i.vd) ≡ true → WholeRoom i vt
-whole-room i vt is = let p = (lies (whole_at i.nf i.vd) is).room in omega arith
+whole-room i vt is = let p = (operand-lies (whole_at i.nf i.vd) is).room in omega arith
 
 mask-room : (class : Class) (i : VInstr) (vt : Vtype) → needs_no_setting class ≡ false → has_setting class vt ≡ true → is_placed (register_at 8 i.vd) ≡ true → MaskRoom i vt
-mask-room class i vt needs has is = let p = (lies (register_at 8 i.vd) is).room in (in_setting class vt needs has, omega arith)
-
--- ---- stores
-
--- what the rules say of an instruction without a destination: a setting is there where it is needed, and what it stores and
--- its indices lie as they must
-record Stored (class : Class) (i : VInstr) (vt : Vtype) : Type 0 where
-  setting : has_setting class vt ≡ true
-  data_placed : if_there is_placed (operand_at vt i.vd (row_of class vt.sew i).vs3) ≡ true
-  index_placed : if_there is_placed (operand_at vt i.vs2 (row_of class vt.sew i).vs2) ≡ true
-
-stored : (class : Class) (i : VInstr) (vt : Vtype) (vstart : ℕ) → is_legal i vt vstart ≡ true → class_of i.op ≡ class → Stored class i vt
-unfolding is_legal obeys_rules are_placed sources_of
-stored class i vt vstart legal is =
-    let h : obeys_rules class i vt vstart ≡ true = rw is at legal in
-    let d = destination_of class i vt in
-    let sources = sources_of class i vt in
-    let a = and_parts (has_setting class vt && may_start_at vstart class && are_placed d sources) (writes_legally class i d sources) h in
-    let b = and_parts (has_setting class vt && may_start_at vstart class) (are_placed d sources) a.0 in
-    let p = and_parts (if_there is_placed d) (list_all (if_there is_placed) sources) b.1 in
-    let q = and_parts (if_there is_placed (operand_at vt i.vd (row_of class vt.sew i).vs3)) _ p.1 in
-    let r = and_parts (if_there is_placed (operand_at vt i.vs2 (row_of class vt.sew i).vs2)) _ q.1 in
-    record { setting = (and_parts (has_setting class vt) (may_start_at vstart class) b.0).0; data_placed = q.0; index_placed = r.0 }
+mask-room class i vt needs has is = let p = (operand-lies (register_at 8 i.vd) is).room in (in_setting class vt needs has, omega arith)
 
 -- ---- indices of loads
 
@@ -92,7 +56,7 @@ allowed : (vd n d first m s emul8 : ℕ)
 allowed vd n d first m s emul8 may = grind (arith, nat_tests)
 
 -- one group, and the indices
-one-beside : (vt : Vtype) (vd s first : ℕ) → Lies (groups_at vt 1 vt.sew vd) → Lies (groups_at vt 1 s first) → may_overlap_by_width (groups_at vt 1 vt.sew vd) (groups_at vt 1 s first) ≡ true
+one-beside : (vt : Vtype) (vd s first : ℕ) → OperandLies (groups_at vt 1 vt.sew vd) → OperandLies (groups_at vt 1 s first) → may_overlap_by_width (groups_at vt 1 vt.sew vd) (groups_at vt 1 s first) ≡ true
     → (first + registers_for vt s ≤ vd) ⊎ ((vd + 1 * registers_for vt vt.sew ≤ first) ⊎ (((first ≡ vd) × (vt.sew ≤ s)) ⊎ ((first + registers_for vt s ≡ vd + registers_for vt vt.sew) × (s ≤ vt.sew) × (8 ≤ emul_of vt s))))
 unfolding may_overlap_by_width registers
 one-beside vt vd s first dest index may =
@@ -133,7 +97,7 @@ index-beside i vt some dest index legally = by i.nf refl
         (λ (off : not (overlap (registers (groups_at vt 1 vt.sew i.vd)) (registers (groups_at vt 1 i.eew i.vs2))) ≡ true).
         ⊎_elim (λ (l : i.vs2 + registers_for vt i.eew ≤ i.vd). inl l) (λ (l : i.vd + 1 * registers_for vt vt.sew ≤ i.vs2). inr (inl (rw e l))) (none-shared vt 1 vt.sew i.vd i.eew i.vs2 (not-true _ off)))
         (λ (on : may_overlap_by_width (groups_at vt 1 vt.sew i.vd) (groups_at vt 1 i.eew i.vs2) ≡ true).
-        one (one-beside vt i.vd i.eew i.vs2 (lies (groups_at vt 1 vt.sew i.vd) (rw e at dest)) (lies (groups_at vt 1 i.eew i.vs2) index) on))
+        one (one-beside vt i.vd i.eew i.vs2 (operand-lies (groups_at vt 1 vt.sew i.vd) (rw e at dest)) (operand-lies (groups_at vt 1 i.eew i.vs2) index) on))
         (or_cases _ _ may)
       where
         one : ((i.vs2 + registers_for vt i.eew ≤ i.vd) ⊎ ((i.vd + 1 * registers_for vt vt.sew ≤ i.vs2) ⊎ (((i.vs2 ≡ i.vd) × (vt.sew ≤ i.eew)) ⊎ ((i.vs2 + registers_for vt i.eew ≡ i.vd + registers_for vt vt.sew) × (i.eew ≤ vt.sew) × (8 ≤ emul_of vt i.eew)))))
@@ -160,27 +124,27 @@ legal_access_law = record {
       let r = obeyed load i vt vstart (groups_at vt i.nf i.eew i.vd) legal class refl in
       (spared load i.vm vt i.nf i.eew i.vd refl some r.spares, field-groups load i vt i.eew refl setting r.setting r.place);
   stores = λ i vt vstart setting legal class some.
-      let r = stored store i vt vstart legal class in
-      field-groups store i vt i.eew refl setting r.setting r.data_placed;
+      let r = rules store i vt vstart legal class in
+      field-groups store i vt i.eew refl setting r.setting r.vs3;
   indexed_loads = λ i vt vstart setting legal class some.
       let r = obeyed indexed_load i vt vstart (groups_at vt i.nf vt.sew i.vd) legal class refl in
       let x = r.sources.vs2 i.eew refl in
-      let p = lies (groups_at vt 1 i.eew i.vs2) x.0 in
+      let p = operand-lies (groups_at vt 1 i.eew i.vs2) x.0 in
       let room : i.vs2 + 1 * registers_for vt i.eew ≤ 32 = p.room in (
         (spared indexed_load i.vm vt i.nf vt.sew i.vd refl some r.spares, field-groups indexed_load i vt vt.sew refl setting r.setting r.place),
         (omega arith, index-beside i vt some r.place x.0 x.1),
       );
   indexed_stores = λ i vt vstart setting legal class some.
-      let r = stored indexed_store i vt vstart legal class in
-      let p = lies (groups_at vt 1 i.eew i.vs2) r.index_placed in
+      let r = rules indexed_store i vt vstart legal class in
+      let p = operand-lies (groups_at vt 1 i.eew i.vs2) r.vs2 in
       let room : i.vs2 + 1 * registers_for vt i.eew ≤ 32 = p.room in
-      (field-groups indexed_store i vt vt.sew refl setting r.setting r.data_placed, omega arith);
+      (field-groups indexed_store i vt vt.sew refl setting r.setting r.vs3, omega arith);
   whole_loads = λ i vt vstart setting legal class some. whole-room i vt (obeyed whole_load i vt vstart (whole_at i.nf i.vd) legal class refl).place;
-  whole_stores = λ i vt vstart setting legal class some. whole-room i vt (stored whole_store i vt vstart legal class).data_placed;
+  whole_stores = λ i vt vstart setting legal class some. whole-room i vt (rules whole_store i vt vstart legal class).vs3;
   mask_loads = λ i vt vstart setting legal class some.
       let r = obeyed mask_load i vt vstart (register_at 8 i.vd) legal class refl in
       mask-room mask_load i vt refl r.setting r.place;
   mask_stores = λ i vt vstart setting legal class some.
-      let r = stored mask_store i vt vstart legal class in
-      mask-room mask_store i vt refl r.setting r.data_placed;
+      let r = rules mask_store i vt vstart legal class in
+      mask-room mask_store i vt refl r.setting r.vs3;
 }

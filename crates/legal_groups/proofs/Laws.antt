@@ -1,17 +1,17 @@
 -- What the rules of legality say of every class whose destination is a group or a mask.
-use Rattle.std.proofs.Common.{◌≡◌, ℕ, zero, suc, ◌+◌, ◌*◌, ◌%◌, ◌<◌, ◌≤◌, Bool, true, false, not, ◌&&◌, ◌||◌, ◌==◌, nat_le, nat_lt, IsTrue, [], ◌∷◌, Option, Some, refl, sym, ◌∙◌, arith, ⊎_elim}
-use Rattle.std.specs.List.{list_all}
-use Rattle.std.proofs.lemmas.Bool.{and_parts, or_cases, eqb-true, leb-true, lt-ltb, false≢true, not-true}
+use Rattle.std.proofs.Common.{◌≡◌, ℕ, zero, suc, ◌+◌, ◌*◌, ◌%◌, ◌<◌, ◌≤◌, Bool, true, false, not, ◌&&◌, ◌||◌, ◌==◌, nat_le, nat_lt, IsTrue, Some, refl, arith}
+use Rattle.std.proofs.lemmas.Bool.{and_parts, eqb-true, leb-true, lt-ltb, false≢true, not-true}
 use Rattle.rvv_decode.specs.declared.instruction.VInstr.{VInstr}
 use Rattle.rvv_decode.specs.declared.instruction.Form.{Form}
 use Rattle.rvv_decode.specs.declared.instruction.Form.TheVariants.{V}
 use Rattle.vtype_cfg.specs.declared.vtype.Vtype.{Vtype}
 use Rattle.vtype_cfg.specs.Settings.{is_supported, is_vill_or_supported}
 use Rattle.vtype_cfg.specs.Groups.{Operand, mask_at, groups_at, registers}
-use Rattle.vtype_cfg.specs.Classes.{Class, plain, Place, group, row_of, class_of, operand_at, in_form, is_mask_place, destination_of, sources_of, needs_no_setting, may_write_mask, overlap_of}
-use Rattle.vtype_cfg.specs.Legality.{has_setting, has_legal_eew, has_legal_emul, is_aligned, fits_registers, is_placed, may_start_at, if_there, are_placed, overlaps_legally, spares_mask, writes_legally, obeys_rules, is_legal}
+use Rattle.vtype_cfg.specs.Classes.{Class, plain, Place, group, row_of, class_of, operand_at, in_form, is_mask_place, needs_no_setting, may_write_mask, overlap_of}
+use Rattle.vtype_cfg.specs.Legality.{has_setting, has_legal_eew, has_legal_emul, is_aligned, fits_registers, is_placed, if_there, overlaps_legally, spares_mask, is_legal}
 use Rattle.legal_groups.specs.Facts.{IsElementWidth, registers_for, Group, Sources, LegalGroupLaw, LegalMaskLaw}
 use Rattle.legal_groups.proofs.Widths.{at_width, is_element_width, element-width, in_force, sew-width}
+use Rattle.legal_groups.proofs.Rules.{rules, in_setting}
 use Rattle.legal_groups.proofs.Overlaps.{is_limited, read-beside, read-for_mask}
 
 -- ---- places
@@ -94,15 +94,6 @@ all-have_widths class i sew width = at_width (λ (w : ℕ). has_widths class i w
 lies : (vt : Vtype) (w first : ℕ) → has_element_width (group w) ≡ true → is_placed (groups_at vt 1 w first) ≡ true → IsElementWidth w × Group (registers_for vt w) first
 lies vt w first fits is = let p = placed vt w first is in (element-width w (rw p.legal at fits), p.place)
 
--- Under vill no class is legal that needs a setting.
-pub in_setting : (class : Class) (vt : Vtype) → needs_no_setting class ≡ false → has_setting class vt ≡ true → vt.vill ≡ false
-unfolding has_setting
-in_setting class vt needs has =
-    ⊎_elim
-    (λ (there : not vt.vill ≡ true). not-true vt.vill there)
-    (λ (none : needs_no_setting class ≡ true). absurd (false≢true (sym needs ∙ none)))
-    (or_cases (not vt.vill) (needs_no_setting class) has)
-
 -- ---- the laws
 
 -- what the rules say of an instruction with this destination, and of its sources
@@ -112,38 +103,22 @@ pub record Obeyed (class : Class) (i : VInstr) (vt : Vtype) (o : Operand) : Type
   pub spares : spares_mask class i.vm o ≡ true
   pub sources : Sources class i vt (λ s first. (is_placed (groups_at vt 1 s first) ≡ true) × (overlaps_legally (overlap_of class i) o (groups_at vt 1 s first) ≡ true))
 
--- what a test of the operands in vs3, vs2 and vs1 says of those in vs2 and vs1
-two-sources : (test : Operand → Bool) (a b c : Option Operand) → list_all (if_there test) (a ∷ b ∷ c ∷ []) ≡ true → (if_there test b ≡ true) × (if_there test c ≡ true)
-two-sources test a b c all =
-    let p = and_parts (if_there test a) (if_there test b && (if_there test c && true)) all in
-    let q = and_parts (if_there test b) (if_there test c && true) p.1 in
-    (q.0, (and_parts (if_there test c) true q.1).0)
-
--- the same of the operand in vs1, which vector forms alone have
+-- what a test says of the operand in vs1, which vector forms alone have
 in_vector : (test : Operand → Bool) (vt : Vtype) (first : ℕ) (form : Form) (place : Place) (s : ℕ) → form ≡ V → place ≡ group s → if_there test (operand_at vt first (in_form form place)) ≡ true → test (groups_at vt 1 s first) ≡ true
 in_vector test vt first form place s is at h = rw (at, is) at h
 
 pub obeyed : (class : Class) (i : VInstr) (vt : Vtype) (vstart : ℕ) (o : Operand) → is_legal i vt vstart ≡ true → class_of i.op ≡ class → operand_at vt i.vd (row_of class vt.sew i).vd ≡ Some o → Obeyed class i vt o
-unfolding is_legal obeys_rules are_placed writes_legally destination_of sources_of
 obeyed class i vt vstart o legal is there =
-    let h : obeys_rules class i vt vstart ≡ true = rw is at legal in
-    let d = destination_of class i vt in
-    let sources = sources_of class i vt in
-    let at_two = operand_at vt i.vs2 (row_of class vt.sew i).vs2 in
-    let at_one = operand_at vt i.vs1 (in_form i.form (row_of class vt.sew i).vs1) in
-    let a = and_parts (has_setting class vt && may_start_at vstart class && are_placed d sources) (writes_legally class i d sources) h in
-    let b = and_parts (has_setting class vt && may_start_at vstart class) (are_placed d sources) a.0 in
-    let p = and_parts (is_placed o) (list_all (if_there is_placed) sources) (rw there at b.1) in
-    let w = and_parts (list_all (if_there (overlaps_legally (overlap_of class i) o)) sources) (spares_mask class i.vm o) (rw there at a.1) in
-    let q = two-sources is_placed _ at_two at_one p.1 in
-    let x = two-sources (overlaps_legally (overlap_of class i) o) _ at_two at_one w.0 in
+    let r = rules class i vt vstart legal is in
+    let two = rw there at r.beside_vs2 in
+    let one = rw there at r.beside_vs1 in
     record {
-      setting = (and_parts (has_setting class vt) (may_start_at vstart class) b.0).0;
-      place = p.0;
-      spares = w.1;
+      setting = r.setting;
+      place = rw there at r.vd;
+      spares = rw there at r.spares;
       sources = record {
-        vs2 = λ s at. (rw at at q.0, rw at at x.0);
-        vs1 = λ s form at. (in_vector is_placed vt i.vs1 i.form _ s form at q.1, in_vector (overlaps_legally (overlap_of class i) o) vt i.vs1 i.form _ s form at x.1);
+        vs2 = λ s at. (rw at at r.vs2, rw at at two);
+        vs1 = λ s form at. (in_vector is_placed vt i.vs1 i.form _ s form at r.vs1, in_vector (overlaps_legally (overlap_of class i) o) vt i.vs1 i.form _ s form at one);
       };
     }
 

@@ -1,5 +1,6 @@
 -- The proofs of the facts of legality.
 pub mod Widths
+pub mod Rules
 pub mod Overlaps
 pub mod Laws
 pub mod Groups

@@ -4,6 +4,14 @@
 #![tactic(auto)]
 
 ghost use Rattle.legal_groups.specs.Facts.{LegalGroupLaw, LegalMaskLaw, LegalPlainLaw, LegalMoveLaw, LegalCompareLaw, LegalAccessLaw};
+ghost use Rattle.legal_groups.specs.Rules.{LegalLaw};
+
+/// Each operand of a legal instruction of any class lies as it must; where its class forbids it, the
+/// destination and the sources share no register; and the mask, the setting and the first element are
+/// as the class asks.
+pub fn legal_law()
+    ensures law { LegalLaw }
+{}
 
 /// The groups of a legal instruction that writes a group, whatever the widths of its elements, lie
 /// within the registers, and written in their order none is overwritten before it has been read.

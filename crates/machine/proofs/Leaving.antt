@@ -3,7 +3,7 @@ use Rattle.std.proofs.Common.{◌≡◌, ℕ, Bool, true, false, ◌||◌, List,
 use Rattle.std.specs.Prelude.{is_some}
 use Rattle.std.proofs.lemmas.Bool.{false≢true}
 use Rattle.rvv_decode.specs.declared.instruction.OpmOp.{OpmOp}
-use Rattle.rvv_decode.specs.declared.instruction.OpmOp.TheVariants.{VmvXS, Vcpop, Vfirst}
+use Rattle.rvv_decode.specs.declared.instruction.OpmOp.TheVariants.{VmvXS, Vcpop, Vfirst, Vid, Vmand, Vmnand, Vmandn, Vmor, Vmnor, Vmorn, Vmxor, Vmxnor}
 use Rattle.rvv_decode.specs.declared.instruction.VInstr.{VInstr}
 use Rattle.rvv_decode.specs.declared.instruction.VOp.{VOp}
 use Rattle.rvv_decode.specs.declared.instruction.VOp.TheVariants.{Opi, Opm, Config, Memory}
@@ -26,6 +26,15 @@ KindOf op (Some leaving) = (i : VInstr) (c : Cfg) (x : ℕ) (v : List (List ℕ)
 opm-kind : (op : OpmOp) → KindOf (Opm op) (whole_for (Opm op))
 unfolding whole_for
 opm-kind VmvXS = λ i c x v. (_, refl)
+opm-kind Vid = λ i c x v. (_, refl)
+opm-kind Vmand = λ i c x v. (_, refl)
+opm-kind Vmnand = λ i c x v. (_, refl)
+opm-kind Vmandn = λ i c x v. (_, refl)
+opm-kind Vmor = λ i c x v. (_, refl)
+opm-kind Vmnor = λ i c x v. (_, refl)
+opm-kind Vmorn = λ i c x v. (_, refl)
+opm-kind Vmxor = λ i c x v. (_, refl)
+opm-kind Vmxnor = λ i c x v. (_, refl)
 opm-kind _ = tt
 
 whole-kind : (op : VOp) → KindOf op (whole_for op)

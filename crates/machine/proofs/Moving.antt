@@ -18,7 +18,7 @@ use Rattle.vtype_cfg.specs.Classes.{opm_class, class_of, destination_of, sources
 use Rattle.vtype_cfg.specs.Legality.{is_legal, obeys_rules, has_setting, may_start_at, are_placed, writes_legally}
 use Rattle.vtype_cfg.specs.declared.configuration.Cfg.{Cfg}
 use Rattle.legal_groups.specs.Facts.{IsElementWidth}
-use Rattle.legal_groups.proofs.Laws.{in_setting}
+use Rattle.legal_groups.proofs.Rules.{in_setting}
 use Rattle.legal_groups.proofs.Widths.{sew-width, at_width}
 use Rattle.vtype_cfg.specs.Settings.{is_valid}
 use Rattle.micro_ir.proofs.Lists.{or_false}

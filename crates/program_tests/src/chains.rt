@@ -8,8 +8,8 @@ use std::test::Fail;
 // The most columns of a chain.
 const MOST_COLUMNS: u32 = 2048;
 
-// Control numbers, which the lists here leave.
-const CONTROL: Control = Control { num: 7, clip: true };
+// The control number, which the lists here leave.
+const NUMBER: u64 = 7;
 
 /// Numbers of searches, updates and passes.
 pub(crate) type Cost = (u128, u128, u128);
@@ -18,12 +18,14 @@ pub(crate) type Cost = (u128, u128, u128);
 #[derive(Clone, Copy)]
 pub(crate) struct Word(pub(crate) u8, pub(crate) u32, pub(crate) u32);
 
-/// A chain before a list and after it: the number of its columns, and words that it holds.
+/// A chain before a list and after it: the number of its columns, words that it holds, and whether the flag of clipped
+/// results is set.
 #[derive(Clone, Copy)]
 pub(crate) struct Trial {
     pub(crate) columns: u32,
     pub(crate) before: &'static [Word],
     pub(crate) after: &'static [Word],
+    pub(crate) clips: bool,
 }
 
 /// A chain that holds the words.
@@ -51,22 +53,25 @@ pub(crate) fn holds(chain: &Chain, words: &[Word]) -> bool {
     true
 }
 
-/// Carries out the first operations of a list on a chain that nothing was counted on, and tells whether it could and no
-/// control number changed.
-fn is_carried_out(chain: &mut Chain, buf: &MicroBuf, first: usize) -> bool {
+/// Carries out the first operations of a list on a chain that nothing was counted on, and tells whether it could, left the
+/// control number, and set the flag of clipped results where `clips` says so.
+fn is_carried_out(chain: &mut Chain, buf: &MicroBuf, first: usize, clips: bool) -> bool {
     let counts = chain.counts();
     let counted = counts.searches > 0 || counts.updates > 0 || counts.passes > 0;
     let ops = buf.ops();
     if counted || first > ops.len() || !are_in_range(chain.columns(), &ops[..first]) {
         return false;
     }
-    let mut control = CONTROL;
+    let mut control = Control {
+        num: NUMBER,
+        clip: false,
+    };
     replay(chain, &mut control, buf, first as u32);
-    control == CONTROL
+    control.num == NUMBER && control.clip == clips
 }
 
 /// What the first operations of a list cost, in searches, updates and passes, or `None` where they leave other words than
-/// those of the trial.
+/// those of the trial, or another flag.
 pub(crate) fn cost_of(
     alloc: Global,
     trial: &Trial,
@@ -74,7 +79,7 @@ pub(crate) fn cost_of(
     first: usize,
 ) -> Result<Option<Cost>, Fail> {
     let mut chain = chain_of(alloc, trial.columns, trial.before)?;
-    let ends = is_carried_out(&mut chain, buf, first) && holds(&chain, trial.after);
+    let ends = is_carried_out(&mut chain, buf, first, trial.clips) && holds(&chain, trial.after);
     Ok(ends.then_some(cost_in(chain.counts())))
 }
 

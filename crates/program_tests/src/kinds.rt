@@ -362,6 +362,7 @@ fn is_made(alloc: Global, row: &Row) -> Result<bool, Fail> {
         columns: 1,
         before: row.before,
         after: row.after,
+        clips: false,
     };
     Ok(cost_of(alloc, &trial, &buf, buf.ops().len())?.is_some())
 }

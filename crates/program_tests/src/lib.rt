@@ -8,6 +8,8 @@ mod buffers;
 #[cfg(test)]
 mod chains;
 #[cfg(test)]
+mod fixed_plans;
+#[cfg(test)]
 mod kinds;
 #[cfg(test)]
 mod lists;
@@ -15,6 +17,8 @@ mod lists;
 mod operations;
 #[cfg(test)]
 mod pieces;
+#[cfg(test)]
+mod planned;
 #[cfg(test)]
 mod plans;
 #[cfg(test)]

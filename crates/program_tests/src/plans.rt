@@ -1,22 +1,10 @@
 //! Vector words that are planned and carried out on registers of 64 bits.
-ghost use Rattle.std.specs.Prelude.{◌≡◌, true};
-ghost use Rattle.rvv_meaning.specs.Vectors.{is_computed};
-
-use crate::chains::{Cost, Trial, Word, cost_in, cost_of};
-use micro_ir::MicroBuf;
-use rvv_decode::{OpiOp, OpmOp, VOp, decode_v};
-use std::alloc::Global;
+use crate::chains::Word;
+use crate::planned::{Row, is_carried_out};
+use rvv_decode::decode_v;
 use std::test::Fail;
-use vec_exec::{engine, plan};
-use vtype_cfg::{Cfg, Policy, Vtype, legal};
-
-// The length of a register, and the columns that hold it.
-const VLEN: u32 = 64;
-
-const COLUMNS: u32 = 2;
-
-// The most micro-operations of one instruction.
-const ROOM: u32 = 262_144;
+use vec_exec::engine;
+use vtype_cfg::Policy;
 
 // The vector types of elements of 8 bits, of 16 bits and of 32 bits in one register, and of 32 bits in eight; and the flag of
 // agnostic masked elements.
@@ -83,27 +71,17 @@ const UNDER_MASK: &[Word] = &[
     Word(3, 0, 0x0403_0701),
 ];
 
-// A word, the setting that it is planned under, words of the chain before and after it, and its cost.
-#[derive(Clone, Copy)]
-struct Row {
-    word: u32,
-    vtype: u32,
-    vl: u32,
-    policy: Policy,
-    before: &'static [Word],
-    after: &'static [Word],
-    cost: Cost,
-}
-
 static ROWS: [Row; 18] = [
     // no carry passes into the next element
     Row {
         word: ADD,
         vtype: E8_M1,
         vl: 8,
+        vxrm: 0,
         policy: Policy::Keep,
         before: &[Word(2, 0, 0x807f_00ff), Word(3, 0, 0x8001_0001)],
         after: &[Word(4, 0, 0x0080_0000)],
+        clips: false,
         cost: (64, 19, 7),
     },
     // a sum of eight registers costs eight times that of one, of 256, 67 and 31
@@ -111,6 +89,7 @@ static ROWS: [Row; 18] = [
         word: ADD_OF_EIGHT,
         vtype: E32_M8,
         vl: 16,
+        vxrm: 0,
         policy: Policy::Keep,
         before: &[
             Word(16, 0, 0x7fff_ffff),
@@ -119,6 +98,7 @@ static ROWS: [Row; 18] = [
             Word(31, 1, 2),
         ],
         after: &[Word(8, 0, 0x8000_0000), Word(15, 1, 1)],
+        clips: false,
         cost: (2048, 536, 248),
     },
     // a comparison may write the mask that it is under
@@ -126,18 +106,22 @@ static ROWS: [Row; 18] = [
         word: EQUAL_UNDER_MASK,
         vtype: E8_M1,
         vl: 8,
+        vxrm: 0,
         policy: Policy::Keep,
         before: UNDER_MASK,
         after: &[Word(0, 0, 0x0000_000d)],
+        clips: false,
         cost: (46, 10, 7),
     },
     Row {
         word: EQUAL_UNDER_MASK,
         vtype: E8_M1 | MASK_AGNOSTIC,
         vl: 8,
+        vxrm: 0,
         policy: Policy::Ones,
         before: UNDER_MASK,
         after: &[Word(0, 0, 0xffff_fffd)],
+        clips: false,
         cost: (47, 11, 7),
     },
     // -1, 127, -128 and 1 times 255, and 255 has no sign
@@ -145,9 +129,11 @@ static ROWS: [Row; 18] = [
         word: HIGH_PRODUCT,
         vtype: E8_M1,
         vl: 4,
+        vxrm: 0,
         policy: Policy::Keep,
         before: &[Word(2, 0, 0x0180_7fff), Word(3, 0, 0xffff_ffff)],
         after: &[Word(4, 0, 0x0080_7eff)],
+        clips: false,
         cost: (1161, 302, 198),
     },
     // 3 times 5 and 1; 2 times 128 and 1; 255 times 255 and 2; 0 times 1 and 7
@@ -155,6 +141,7 @@ static ROWS: [Row; 18] = [
         word: PRODUCT_AND_ADDEND,
         vtype: E8_M1,
         vl: 4,
+        vxrm: 0,
         policy: Policy::Keep,
         before: &[
             Word(2, 0, 0x0702_0101),
@@ -162,6 +149,7 @@ static ROWS: [Row; 18] = [
             Word(4, 0, 0x01ff_8005),
         ],
         after: &[Word(4, 0, 0x0703_0110)],
+        clips: false,
         cost: (1106, 293, 191),
     },
     // 5 less 1 times 3; 128 less 1 times 2; 255 less 2 times 255; 1 less 7 times 0
@@ -169,6 +157,7 @@ static ROWS: [Row; 18] = [
         word: LESS_PRODUCT,
         vtype: E8_M1,
         vl: 4,
+        vxrm: 0,
         policy: Policy::Keep,
         before: &[
             Word(2, 0, 0x0702_0101),
@@ -176,6 +165,7 @@ static ROWS: [Row; 18] = [
             Word(4, 0, 0x01ff_8005),
         ],
         after: &[Word(4, 0, 0x0101_7e02)],
+        clips: false,
         cost: (1107, 294, 191),
     },
     // the quotient of the least number by -1 has no room, and that by 0 is all ones
@@ -183,18 +173,22 @@ static ROWS: [Row; 18] = [
         word: QUOTIENT,
         vtype: E32_M1,
         vl: 2,
+        vxrm: 0,
         policy: Policy::Keep,
         before: DIVIDED,
         after: &[Word(4, 0, 0x8000_0000), Word(4, 1, 0xffff_ffff)],
+        clips: false,
         cost: (10603, 3854, 3257),
     },
     Row {
         word: REMAINDER,
         vtype: E32_M1,
         vl: 2,
+        vxrm: 0,
         policy: Policy::Keep,
         before: DIVIDED,
         after: &[Word(4, 1, 0xffff_fffb)],
+        clips: false,
         cost: (10507, 3822, 3226),
     },
     // the amounts are 11 and 8, of which 3 and 0 count
@@ -202,18 +196,22 @@ static ROWS: [Row; 18] = [
         word: SHIFTED,
         vtype: E8_M1,
         vl: 2,
+        vxrm: 0,
         policy: Policy::Keep,
         before: &[Word(2, 0, 0xffff_8181), Word(3, 0, 0x0101_080b)],
         after: &[Word(4, 0, 0x0000_8108)],
+        clips: false,
         cost: (52, 43, 28),
     },
     Row {
         word: EXTENDED,
         vtype: E16_M1,
         vl: 3,
+        vxrm: 0,
         policy: Policy::Keep,
         before: &[Word(2, 0, 0xffff_7f80)],
         after: &[Word(4, 0, 0x007f_ff80), Word(4, 1, 0x0000_ffff)],
+        clips: false,
         cost: (10, 10, 8),
     },
     // the low and the high half of a register are those of two registers
@@ -221,6 +219,7 @@ static ROWS: [Row; 18] = [
         word: NARROWED,
         vtype: E8_M1,
         vl: 5,
+        vxrm: 0,
         policy: Policy::Keep,
         before: &[
             Word(2, 0, 0x8000_1234),
@@ -229,6 +228,7 @@ static ROWS: [Row; 18] = [
             Word(6, 1, 0x0000_0018),
         ],
         after: &[Word(4, 0, 0x0000_0123), Word(4, 1, 0x0000_00ab)],
+        clips: false,
         cost: (198, 174, 150),
     },
     // the upper half of a register is added into the next one
@@ -236,6 +236,7 @@ static ROWS: [Row; 18] = [
         word: WIDENED,
         vtype: E8_M1,
         vl: 5,
+        vxrm: 0,
         policy: Policy::Keep,
         before: &[
             Word(2, 0, 0x8000_7fff),
@@ -248,6 +249,7 @@ static ROWS: [Row; 18] = [
             Word(4, 1, 0x0100_0000),
             Word(5, 0, 0x0000_01fe),
         ],
+        clips: false,
         cost: (256, 70, 30),
     },
     // 9 is 1 of the amounts of 8 bits, and the sign comes in
@@ -255,24 +257,29 @@ static ROWS: [Row; 18] = [
         word: SIGNED_SHIFT,
         vtype: E8_M1,
         vl: 1,
+        vxrm: 0,
         policy: Policy::Keep,
         before: &[Word(2, 0, 0x0000_0080), Word(3, 0, 0x0000_0009)],
         after: &[Word(4, 0, 0x0000_00c0)],
+        clips: false,
         cost: (64, 55, 35),
     },
     Row {
         word: PRODUCT,
         vtype: E8_M1,
         vl: 2,
+        vxrm: 0,
         policy: Policy::Keep,
         before: &[Word(2, 0, 0x0000_0503), Word(3, 0, 0x0000_0702)],
         after: &[Word(4, 0, 0x0000_2306)],
+        clips: false,
         cost: (1044, 276, 184),
     },
     Row {
         word: PRODUCT_ADDED,
         vtype: E8_M1,
         vl: 1,
+        vxrm: 0,
         policy: Policy::Keep,
         before: &[
             Word(2, 0, 0x0000_0003),
@@ -280,6 +287,7 @@ static ROWS: [Row; 18] = [
             Word(4, 0, 0x0000_0001),
         ],
         after: &[Word(4, 0, 0x0000_0007)],
+        clips: false,
         cost: (1106, 293, 191),
     },
     // products of bytes without a sign
@@ -287,9 +295,11 @@ static ROWS: [Row; 18] = [
         word: WIDE_PRODUCT,
         vtype: E8_M1,
         vl: 2,
+        vxrm: 0,
         policy: Policy::Keep,
         before: &[Word(2, 0, 0x0000_10ff), Word(3, 0, 0x0000_20ff)],
         after: &[Word(4, 0, 0x0200_fe01)],
+        clips: false,
         cost: (8008, 1864, 1504),
     },
     // the products are 255 times -1 and 2 times -128
@@ -297,6 +307,7 @@ static ROWS: [Row; 18] = [
         word: WIDE_PRODUCT_ADDED,
         vtype: E8_M1,
         vl: 2,
+        vxrm: 0,
         policy: Policy::Keep,
         before: &[
             Word(2, 0, 0x0000_02ff),
@@ -304,64 +315,10 @@ static ROWS: [Row; 18] = [
             Word(4, 0, 0x0001_0100),
         ],
         after: &[Word(4, 0, 0xff01_0001)],
+        clips: false,
         cost: (8276, 1946, 1550),
     },
 ];
-
-// Whether it is an operation of the table.
-#[tactic(auto, unfolding(rvv_meaning::specs::Operations::operation_for))]
-fn is_planned(op: VOp) -> bool
-    ensures { result ≡ true → is_computed op ≡ true }
-{
-    match op {
-        VOp::Opi(OpiOp::Vadd | OpiOp::Vmseq | OpiOp::Vsll | OpiOp::Vsra | OpiOp::Vnsrl) => true,
-        VOp::Opm(OpmOp::VsextVf2 | OpmOp::Vwaddu) => true,
-        VOp::Opm(OpmOp::Vwmulu | OpmOp::Vwmaccsu) => true,
-        VOp::Opm(OpmOp::Vmul | OpmOp::Vmacc) => true,
-        VOp::Opm(OpmOp::Vmulhsu | OpmOp::Vmadd | OpmOp::Vnmsac) => true,
-        VOp::Opm(OpmOp::Vdiv | OpmOp::Vrem) => true,
-        _ => false,
-    }
-}
-
-// The program of the row's word.
-#[tactic(auto, unfolding(vtype_cfg::specs::Settings::is_valid, vtype_cfg::specs::Settings::is_legal_vlen, vtype_cfg::specs::Settings::legal_vlens))]
-fn program_of(alloc: Global, row: &Row) -> Result<MicroBuf, Fail> {
-    let vtype = Vtype::from_bits(row.vtype);
-    if row.vl > vtype.vlmax(VLEN) {
-        return Err("a length of this setting".into());
-    }
-    let cfg = Cfg {
-        vtype,
-        vl: row.vl,
-        vstart: 0,
-        vxrm: 0,
-        vlen: VLEN,
-        policy: row.policy,
-    };
-    let i = decode_v(row.word).ok_or("a vector word")?;
-    if !engine(&i) || !is_planned(i.op) {
-        return Err("an instruction of the table".into());
-    }
-    if !legal(&i, &cfg.vtype, cfg.vstart, cfg.vlen) {
-        return Err("a legal instruction".into());
-    }
-    let mut buf = MicroBuf::new(alloc, ROOM)?;
-    plan(&i, &cfg, 0, &mut buf);
-    Ok(buf)
-}
-
-// Whether the program of the row's word leaves what the row says, and costs what it says.
-fn is_carried_out(alloc: Global, row: &Row) -> Result<bool, Fail> {
-    let buf = program_of(alloc, row)?;
-    let trial = Trial {
-        columns: COLUMNS,
-        before: row.before,
-        after: row.after,
-    };
-    let cost = cost_of(alloc, &trial, &buf, buf.ops().len())?;
-    Ok(cost == Some(row.cost) && cost_in(buf.tally()) == row.cost)
-}
 
 #[test]
 fn programs_leave_these_words(rt: HostRuntime) -> Result<(), Fail> {

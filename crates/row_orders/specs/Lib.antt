@@ -2,3 +2,4 @@
 pub mod Lists
 pub mod Kinds
 pub mod Laws
+pub mod Folds

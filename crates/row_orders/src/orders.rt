@@ -3,6 +3,7 @@ ghost use Rattle.std.specs.Prelude.{◌≡◌, ◌+◌, ◌*◌, ◌<◌, ◌≤
 ghost use Rattle.micro_ir.specs.WorkRows.{IsOperandRow};
 ghost use Rattle.row_counts.specs.Spans.{IsSpan};
 ghost use Rattle.row_orders.specs.Kinds.{start_of, order_ops, order_length};
+ghost use Rattle.row_orders.specs.Folds.{FoldsOrder};
 ghost use Rattle.row_orders.specs.Laws.{SpendsOrder};
 
 use crate::bits::emit_order_bits;
@@ -48,6 +49,7 @@ pub fn emit_order<W: Width>(buf: &mut MicroBuf, at: &Place, span: &Span, kind: O
     ensures ops { buf.new.ops ≡ buf.old.ops ++ order_ops kind W.BITS at.now span.now }
     ensures spare { buf.new.spare + order_length W.BITS span.now ≡ buf.old.spare }
     ensures cost { SpendsOrder kind W.BITS at.now span.now }
+    ensures folds { FoldsOrder kind W.BITS at.now.b span.now }
 {
     let start = start_of::<W>(kind);
     buf.push(MicroOp::SetNum { num: start });

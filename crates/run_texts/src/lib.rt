@@ -1,5 +1,4 @@
-//! Texts about a run: the lines of what it took, and the work rows and tags of its slices. They are for the options of a
-//! run that show these, which are not built yet.
+//! Texts about a run: the lines of what it took, and the work rows and tags of its slices.
 #![tactic(auto)]
 
 mod counts;

@@ -13,7 +13,7 @@ use Rattle.rvv_decode.specs.declared.instruction.Form.{Form}
 use Rattle.rvv_decode.specs.declared.instruction.Form.TheVariants.{V, X, I}
 use Rattle.rvv_decode.specs.declared.instruction.OpiOp.{OpiOp}
 use Rattle.rvv_decode.specs.declared.instruction.OpmOp.{OpmOp}
-use Rattle.rvv_decode.specs.declared.instruction.OpmOp.TheVariants.{VmvXS, Vcpop, Vfirst}
+use Rattle.rvv_decode.specs.declared.instruction.OpmOp.TheVariants.{VmvXS, Vcpop, Vfirst, Vid, Vmand, Vmnand, Vmandn, Vmor, Vmnor, Vmorn, Vmxor, Vmxnor}
 use Rattle.vtype_cfg.specs.declared.configuration.Cfg.{Cfg}
 use Rattle.vtype_cfg.specs.Classes.{group as group_place, count_at}
 use Rattle.vtype_cfg.specs.Settings.{vlmax}
@@ -250,4 +250,13 @@ makes_number op = false
 -- the instructions of this kind that are built
 unfoldable pub whole_for : VOp → Option Leaving
 whole_for (Opm VmvXS) = Some first_element
+whole_for (Opm Vid) = Some element_numbers
+whole_for (Opm Vmand) = Some (λ i c x v. mask_logic i c x v (λ a b. a && b))
+whole_for (Opm Vmnand) = Some (λ i c x v. mask_logic i c x v (λ a b. not (a && b)))
+whole_for (Opm Vmandn) = Some (λ i c x v. mask_logic i c x v (λ a b. a && not b))
+whole_for (Opm Vmor) = Some (λ i c x v. mask_logic i c x v (λ a b. a || b))
+whole_for (Opm Vmnor) = Some (λ i c x v. mask_logic i c x v (λ a b. not (a || b)))
+whole_for (Opm Vmorn) = Some (λ i c x v. mask_logic i c x v (λ a b. a || not b))
+whole_for (Opm Vmxor) = Some (λ i c x v. mask_logic i c x v (λ a b. cond a (not b) b))
+whole_for (Opm Vmxnor) = Some (λ i c x v. mask_logic i c x v (λ a b. not (cond a (not b) b)))
 whole_for _ = None

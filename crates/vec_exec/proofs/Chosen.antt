@@ -1,23 +1,26 @@
 -- The lists that an instruction takes, and its program in the frame as the code writes it.
-use Rattle.std.proofs.Common.{◌≡◌, ℕ, zero, suc, ◌+◌, ◌*◌, ◌<◌, Bool, true, false, ◌&&◌, not, cond, List, ◌++◌, refl, sym, ◌∙◌, ap, subst}
+use Rattle.std.proofs.Common.{◌≡◌, ℕ, zero, suc, ◌+◌, ◌*◌, ◌<◌, Bool, true, false, ◌&&◌, not, cond, List, ◌++◌, refl, sym, ◌∙◌, ap, subst, arith}
 use Rattle.bit_rows.specs.Slices.{Slices}
 use Rattle.cam_chain.specs.Views.{registers_of}
-use Rattle.gen_shift.specs.Rows.{shift_rows, shifted_row}
+use Rattle.gen_fixed.specs.Lists.{overflow_row}
+use Rattle.micro_ir.specs.WorkRows.{truth_row}
 use Rattle.micro_ir.specs.declared.op.MicroOp.{MicroOp}
 use Rattle.micro_ir.specs.Kinds.{Realises}
 use Rattle.micro_ir.specs.Replay.{clips, all_keep_control}
 use Rattle.micro_ir.proofs.Lists.{clips-none}
 use Rattle.micro_ir.proofs.Valued.{tells-same}
 use Rattle.row_views.specs.Clips.{ClipsWhere}
+use Rattle.rvv_decode.specs.declared.instruction.Form.{Form}
+use Rattle.rvv_decode.specs.declared.instruction.Form.TheVariants.{V, X, I}
 use Rattle.rvv_decode.specs.declared.instruction.VInstr.{VInstr}
 use Rattle.vtype_cfg.specs.declared.configuration.Cfg.{Cfg}
 use Rattle.vtype_cfg.specs.Classes.{class_of, compare, narrowing}
 use Rattle.legal_groups.specs.Facts.{IsElementWidth, registers_for, group_count}
 use Rattle.rvv_meaning.specs.Elementwise.{Elementwise, clips_below, clips as clips_elements}
 use Rattle.rvv_meaning.specs.Operations.{Operation, on_elements, elements_at, reads_mask, log2}
-use Rattle.frame_laws.specs.Classes.Operands.{row_of}
+use Rattle.frame_laws.specs.Classes.Operands.{row_of, is_laid_out_in}
 use Rattle.frame_laws.specs.Classes.Plain.{AllCompute, AllClip}
-use Rattle.frame_laws.specs.Classes.Halved.{AllLeave}
+use Rattle.frame_laws.specs.Classes.Halved.{AllLeave, AllFlag, LeavesFlag}
 use Rattle.frame_laws.specs.Classes.Compared.{AllTell}
 use Rattle.frame_laws.specs.Programs.{program, first_registers, one_register}
 use Rattle.frame_laws.specs.Shapes.{Shape, usual_bounds}
@@ -26,16 +29,18 @@ use Rattle.frame_meaning.specs.declared.Order.{Order}
 use Rattle.frame_meaning.specs.declared.Order.TheVariants.{Straight}
 use Rattle.frame_meaning.specs.declared.Signs.{Signs}
 use Rattle.frame_meaning.specs.Shapes.{signs_of, scalar_of, width_in, count_in, class_in, operands_in, value_by, value_in, elements_in, shape_in, body_in, program_in}
-use Rattle.frame_meaning.specs.Clips.{clips_by, clips_in}
-use Rattle.frame_meaning.specs.Halves.{half_count, half_operands, half_scalar, half_value_in, half_elements, half_shape, half_body, half_program_in, IsOfHalves}
+use Rattle.frame_meaning.specs.Clips.{clips_by, clips_in, half_clips_in}
+use Rattle.frame_meaning.proofs.Clips.{from_bool-same}
+use Rattle.frame_meaning.specs.Halves.{half_count, half_in_vs1, half_operands, half_scalar, half_value_in, half_elements, half_shape, half_body, half_program_in}
 use Rattle.frame_meaning.specs.Masks.{IsTruth, truth_in, compare_operands, compare_shape, compare_program}
 use Rattle.vec_exec.specs.declared.recipes.Listed.{Listed}
 use Rattle.vec_exec.specs.declared.recipes.Recipe.{Recipe}
-use Rattle.vec_exec.specs.Recipes.{makes_bits, makes_halves, takes_row, takes_laid, uses_wide_rows, value_of, truth_of, tells_clips, clips_of, Computes, TellsClips}
+use Rattle.vec_exec.specs.Recipes.{makes_bits, makes_halves, takes_row, takes_laid, uses_wide_rows, value_row, written_rows, value_of, truth_of, tells_clips, clips_of, Computes, TellsClips}
 use Rattle.vec_exec.specs.Programs.{reads, list_for, width_of, count_of, kind_list, truth_list, wide_lists, element_program, mask_program, half_program, register_list, registers_list, mask_register_list, mask_registers_list, half_register_list, half_registers_list, mask_fill_list, scalar_list, IsMade, IsMaskMade, IsHalfMade}
-use Rattle.vec_exec.proofs.Fits.{never, Traits, takes_one_laid, has_wide_rows, Means, Unmasked, Clipping, Fits}
+use Rattle.vec_exec.proofs.Fits.{never, Traits, takes_one_laid, has_wide_rows, Means, Unmasked, Halved, Clipping, Fits}
 use Rattle.vec_exec.proofs.Placed.{no-bit}
-use Rattle.vec_exec.proofs.Listing.{lists-compute, leaves-same, clips-same, spared}
+use Rattle.vec_exec.proofs.Keeping.{wide-keep}
+use Rattle.vec_exec.proofs.Listing.{lists-compute, leaves-same, clips-same, flags-same, spared, spared-halves, spared-flags}
 
 -- no element is clipped where the operation clips none
 pub clips-no-element : (c : Cfg) (e : Elementwise) (v : List (List ℕ)) → ((k : ℕ) → e.clipped v k ≡ false) → (n : ℕ) → clips_below c e v n ≡ false
@@ -94,6 +99,14 @@ module _ (r : Recipe) (o : Operation) (i : VInstr) (c : Cfg) (x : ℕ) (f : Fits
   pub tells-for : tells_clips (list_for r i) ≡ tells_clips r.masked
   tells-for = chosen tells_clips (ap (λ (t : Traits). t.tells) f.same)
 
+  -- and what the operation clips
+  pub clip-for : Clipping r o → (w a b d : ℕ) → clips_of (list_for r i) w c.vxrm a b d ≡ clips_by r.order o w c.vxrm a b d
+  clip-for clip w a b d = either (reads r i)
+    where
+      either : (t : Bool) → clips_of (cond t r.masked r.plain) w c.vxrm a b d ≡ clips_by r.order o w c.vxrm a b d
+      either true = clip.means w c.vxrm a b d
+      either false = ap (λ (l : Listed). clips_of l w c.vxrm a b d) clip.plain ∙ clip.means w c.vxrm a b d
+
   -- where no list tells clips, the operation clips no element
   pub unclipped : tells_clips r.masked ≡ false → (v : List (List ℕ)) → clips_elements c (on_elements i c x o) v ≡ false
   unfolding elements_at
@@ -135,14 +148,6 @@ module _ (r : Recipe) (o : Operation) (i : VInstr) (c : Cfg) (x : ℕ) (f : Fits
           signs
           (lists-compute r.order o i c (list_for r i) (width_of r c) _ _ _ (i.vd + g) refl (bits-for ∙ numbers) takes-for (value-for (width_of r c)) (made g inside).computes)
 
-      -- each list tells what the operation clips, where it does
-      pub clip-for : Clipping r o → (w a b d : ℕ) → clips_of (list_for r i) w c.vxrm a b d ≡ clips_by r.order o w c.vxrm a b d
-      clip-for clip w a b d = either (reads r i)
-        where
-          either : (t : Bool) → clips_of (cond t r.masked r.plain) w c.vxrm a b d ≡ clips_by r.order o w c.vxrm a b d
-          either true = clip.means w c.vxrm a b d
-          either false = ap (λ (l : Listed). clips_of l w c.vxrm a b d) clip.plain ∙ clip.means w c.vxrm a b d
-
       pub clip-told : Clipping r o → tells_clips r.masked ≡ true → ((g : ℕ) → g < count_of r c → IsMade r i c g)
           → AllClip (width_in r.order c.vtype.sew) (count_in r.order c.vtype) (operands_in r.order (signs_of o) i c.vtype.sew) (clips_in r.order i c o) (kind_list r i c)
       unfolding TellsClips
@@ -180,23 +185,48 @@ module _ (r : Recipe) (o : Operation) (i : VInstr) (c : Cfg) (x : ℕ) (f : Fits
       pub half-class : class_of i.op ≡ narrowing
       half-class = class-is ∙ rw (numbers, halves) refl
 
-      pub of-halves : IsOfHalves o × (r.order ≡ Straight)
+      pub of-halves : Halved r o
       of-halves = rw halves at f.halves
 
       pub half-value : (w a b : ℕ) → value_of (list_for r i) w c.vxrm a b 0 false ≡ o.value w c.vxrm a b 0 false
       half-value w a b =
           value-for w a b 0 false
-          ∙ ap (λ (order : Order). value_by order o w c.vxrm a b 0 (reads_mask i o && false)) of-halves.1
-          ∙ of-halves.0.ignores w c.vxrm a b (cond o.takes_old 0 0) (reads_mask i o && false)
+          ∙ ap (λ (order : Order). value_by order o w c.vxrm a b 0 (reads_mask i o && false)) of-halves.straight
+          ∙ of-halves.value.ignores w c.vxrm a b (cond o.takes_old 0 0) (reads_mask i o && false)
 
       pub leaves-all : ((g : ℕ) → g < registers_for c.vtype c.vtype.sew → IsHalfMade r i c g) → AllLeave (half_shape i c x o) (half_operands i c.vtype.sew) (half_value_in c o) (wide_lists r i c) (half_count c.vtype)
       unfolding half_shape half_elements elements_at
       leaves-all made = record {
-        work = shift_rows;
-        spares = spared;
-        spares_halves = refl;
-        leaves = λ g h inside first. leaves-same c.vtype.sew (shifted_row (log2 (2 * c.vtype.sew))) shift_rows _ _ _ (λ n. half-value c.vtype.sew _ _) ((made g inside).leaves h first);
+        work = written_rows (list_for r i);
+        spares = spared (list_for r i);
+        spares_halves = spared-halves (list_for r i);
+        leaves = λ g h inside first.
+            leaves-same c.vtype.sew (value_row (list_for r i) (log2 (2 * c.vtype.sew))) (written_rows (list_for r i)) _ _ _ (λ n. half-value c.vtype.sew _ _) ((made g inside).leaves h first);
       }
+
+      -- each list tells what the operation clips of two operands
+      pub half-clip : Clipping r o → (w a b : ℕ) → clips_of (list_for r i) w c.vxrm a b 0 ≡ o.clips w c.vxrm a b 0 false
+      half-clip clip w a b =
+          clip-for clip w a b 0
+          ∙ ap (λ (order : Order). clips_by order o w c.vxrm a b 0) of-halves.straight
+          ∙ from_bool-same _ _ (of-halves.flag.ignores w c.vxrm a b (cond o.takes_old 0 0) false)
+
+      pub flags-all : Clipping r o → tells_clips r.masked ≡ true → (made : (g : ℕ) → g < registers_for c.vtype c.vtype.sew → IsHalfMade r i c g)
+          → AllFlag (half_shape i c x o) (half_operands i c.vtype.sew) (half_clips_in c o) (wide_lists r i c) (half_count c.vtype) (leaves-all made).work
+      unfolding half_shape half_elements elements_at leaves-all
+      flags-all clip told made = record {
+        told = tells-for ∙ told;
+        keeps = λ q. wide-keep (list_for r i) c.vtype.sew _ _ _ _ _ (halves-for ∙ halves);
+        spares_flags = spared-flags (list_for r i);
+        apart_flags = apart i.form;
+        apart_halves = omega arith;
+        flags = λ g h inside first. flags-same c.vtype.sew overflow_row _ _ _ (λ n. half-clip clip c.vtype.sew _ _) (rw (tells-for ∙ told) at ((made g inside).flags h first));
+      }
+        where
+          apart : (form : Form) → is_laid_out_in truth_row (half_in_vs1 form c.vtype.sew i.vs1) ≡ false
+          apart V = refl
+          apart X = refl
+          apart I = refl
 
       -- the program as it is written
       module _ (wide : IsElementWidth c.vtype.sew) where

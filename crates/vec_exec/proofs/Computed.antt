@@ -5,7 +5,7 @@ use Rattle.std.proofs.lemmas.Bool.{cases_Bool, false≢true}
 use Rattle.rvv_decode.specs.declared.instruction.OpmOp.{OpmOp}
 use Rattle.rvv_decode.specs.declared.instruction.OpiOp.{OpiOp}
 use Rattle.rvv_decode.specs.declared.instruction.OpiOp.TheVariants.{Vrgather, Vrgatherei16}
-use Rattle.rvv_decode.specs.declared.instruction.OpmOp.TheVariants.{VmvXS, Vcompress, Viota}
+use Rattle.rvv_decode.specs.declared.instruction.OpmOp.TheVariants.{VmvXS, Vcompress, Viota, Vid, Vmand, Vmnand, Vmandn, Vmor, Vmnor, Vmorn, Vmxor, Vmxnor}
 use Rattle.rvv_decode.specs.declared.instruction.Form.{Form}
 use Rattle.rvv_decode.specs.declared.instruction.VInstr.{VInstr}
 use Rattle.rvv_decode.specs.declared.instruction.VOp.{VOp}
@@ -14,30 +14,38 @@ use Rattle.rvv_meaning.specs.Operations.{operation_for}
 use Rattle.rvv_meaning.specs.Vectors.{is_built, is_computed}
 use Rattle.rvv_meaning.specs.Whole.{whole_for, makes_number}
 use Rattle.vec_exec.specs.Programs.{is_engine, is_engine_op, is_opi_engine, is_opm_engine}
+use Rattle.move_exec.specs.Kinds.{kind_for}
 use Rattle.vec_exec.specs.Recipes.{recipe_for}
 use Rattle.vec_exec.proofs.Fits.{recipe-when-built}
 
--- no instruction that reads a whole group or a whole mask has a program yet
-whole-opm : (op : OpmOp) → is_some (whole_for (Opm op)) ≡ true → is_opm_engine op ≡ false
-unfolding whole_for
-whole-opm VmvXS whole = refl
-whole-opm _ whole = absurd (false≢true whole)
+-- an instruction that reads a whole group or a whole mask, and has a program, is of a kind that is planned as a whole
+whole-opm : (op : OpmOp) → is_some (whole_for (Opm op)) ≡ true → is_opm_engine op ≡ true → is_some (kind_for (Opm op)) ≡ true
+unfolding whole_for kind_for
+whole-opm VmvXS whole runs = absurd (false≢true runs)
+whole-opm Vid whole runs = refl
+whole-opm Vmand whole runs = refl
+whole-opm Vmnand whole runs = refl
+whole-opm Vmandn whole runs = refl
+whole-opm Vmor whole runs = refl
+whole-opm Vmnor whole runs = refl
+whole-opm Vmorn whole runs = refl
+whole-opm Vmxor whole runs = refl
+whole-opm Vmxnor whole runs = refl
+whole-opm _ whole runs = absurd (false≢true whole)
 
-no-whole : (op : VOp) (form : Form) → is_some (whole_for op) ≡ true → is_engine_op op form ≡ true → ⊥
+whole-kind : (op : VOp) (form : Form) → is_some (whole_for op) ≡ true → is_engine_op op form ≡ true → is_some (kind_for op) ≡ true
 unfolding whole_for
-no-whole (Opi op) form whole runs = false≢true whole
-no-whole (Opm op) form whole runs = false≢true (sym (whole-opm op whole) ∙ runs)
-no-whole (Config op) form whole runs = false≢true runs
-no-whole (Memory op) form whole runs = false≢true runs
+whole-kind (Opi op) form whole runs = absurd (false≢true whole)
+whole-kind (Opm op) form whole runs = whole-opm op whole runs
+whole-kind (Config op) form whole runs = absurd (false≢true runs)
+whole-kind (Memory op) form whole runs = absurd (false≢true runs)
 
--- what is built and has a program has a recipe
-pub recipe-when-planned : (i : VInstr) → is_computed i.op ≡ true → is_engine i ≡ true → is_some (recipe_for i.op) ≡ true
+-- what is built and has a program is planned as a whole, where it has no recipe
+pub whole-when-planned : (i : VInstr) → is_computed i.op ≡ true → is_engine i ≡ true → is_some (recipe_for i.op) ≡ false → is_some (kind_for i.op) ≡ true
 unfolding is_engine
-recipe-when-planned i computed runs =
-    ⊎_elim
-    (λ (some : is_some (operation_for i.op) ≡ true). recipe-when-built i.op ∙ some)
-    (λ (none : is_some (operation_for i.op) ≡ false). absurd (no-whole i.op i.form (sym (ap (λ (b : Bool). b || is_some (whole_for i.op)) none) ∙ computed) runs))
-    (cases_Bool (is_some (operation_for i.op)))
+whole-when-planned i computed runs recipe =
+    let none : is_some (operation_for i.op) ≡ false = sym (recipe-when-built i.op) ∙ recipe in
+    whole-kind i.op i.form (sym (ap (λ (b : Bool). b || is_some (whole_for i.op)) none) ∙ computed) runs
 
 -- ---- what is built and has no program
 
@@ -63,24 +71,33 @@ operation-runs (Config op) form some = absurd (false≢true some)
 operation-runs (Memory op) form some = absurd (false≢true some)
 
 -- no instruction is built yet that moves elements without a program
-whole-numbers : (op : OpmOp) → is_some (whole_for (Opm op)) ≡ true → makes_number (Opm op) ≡ true
+opm-moves : (op : OpmOp) → is_some (whole_for (Opm op)) ≡ true → is_opm_engine op ≡ false → makes_number (Opm op) ≡ true
 unfolding whole_for
-whole-numbers VmvXS whole = refl
-whole-numbers _ whole = absurd (false≢true whole)
+opm-moves VmvXS whole apart = refl
+opm-moves Vid whole apart = absurd (false≢true (sym apart))
+opm-moves Vmand whole apart = absurd (false≢true (sym apart))
+opm-moves Vmnand whole apart = absurd (false≢true (sym apart))
+opm-moves Vmandn whole apart = absurd (false≢true (sym apart))
+opm-moves Vmor whole apart = absurd (false≢true (sym apart))
+opm-moves Vmnor whole apart = absurd (false≢true (sym apart))
+opm-moves Vmorn whole apart = absurd (false≢true (sym apart))
+opm-moves Vmxor whole apart = absurd (false≢true (sym apart))
+opm-moves Vmxnor whole apart = absurd (false≢true (sym apart))
+opm-moves _ whole apart = absurd (false≢true whole)
 
-none-moves : (op : VOp) → is_some (whole_for op) ≡ true → makes_number op ≡ false → ⊥
+none-moves : (op : VOp) (form : Form) → is_some (whole_for op) ≡ true → is_engine_op op form ≡ false → makes_number op ≡ false → ⊥
 unfolding whole_for
-none-moves (Opi op) whole apart = false≢true whole
-none-moves (Opm op) whole apart = false≢true (sym apart ∙ whole-numbers op whole)
-none-moves (Config op) whole apart = false≢true whole
-none-moves (Memory op) whole apart = false≢true whole
+none-moves (Opi op) form whole apart registers = false≢true whole
+none-moves (Opm op) form whole apart registers = false≢true (sym registers ∙ opm-moves op whole apart)
+none-moves (Config op) form whole apart registers = false≢true whole
+none-moves (Memory op) form whole apart registers = false≢true whole
 
 pub none-permutes : (i : VInstr) → is_computed i.op ≡ true → is_engine i ≡ false → makes_number i.op ≡ false → ⊥
 unfolding is_engine
 none-permutes i computed apart registers =
     ⊎_elim
     (λ (some : is_some (operation_for i.op) ≡ true). false≢true (sym apart ∙ operation-runs i.op i.form some))
-    (λ (none : is_some (operation_for i.op) ≡ false). none-moves i.op (sym (ap (λ (b : Bool). b || is_some (whole_for i.op)) none) ∙ computed) registers)
+    (λ (none : is_some (operation_for i.op) ≡ false). none-moves i.op i.form (sym (ap (λ (b : Bool). b || is_some (whole_for i.op)) none) ∙ computed) apart registers)
     (cases_Bool (is_some (operation_for i.op)))
 
 -- ---- what is built and a program carries out

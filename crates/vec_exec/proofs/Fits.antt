@@ -1,7 +1,7 @@
 -- The lists of each recipe compute the value, or tell the truth, of its operation.
 use Rattle.std.proofs.Common.{◌≡◌, ℕ, ◌+◌, ◌-◌, ◌*◌, ◌^◌, Bool, true, false, cond, leb, ltb, Option, Some, None, refl, ap, arith, mul_comm}
 use Rattle.std.specs.Prelude.{is_some}
-use Rattle.rvv_decode.specs.declared.instruction.OpiOp.TheVariants.{Vadd, Vsub, Vrsub, Vadc, Vsbc, Vmadc, Vmsbc, Vand, Vor, Vxor, Vsll, Vsrl, Vsra, Vmseq, Vmsne, Vmsltu, Vmslt, Vmsleu, Vmsle, Vmsgtu, Vmsgt, Vminu, Vmin, Vmaxu, Vmax, Vmerge, VmvV, Vnsrl, Vnsra, Vsaddu, Vsadd, Vssubu, Vssub, Vsmul, Vssrl, Vssra}
+use Rattle.rvv_decode.specs.declared.instruction.OpiOp.TheVariants.{Vadd, Vsub, Vrsub, Vadc, Vsbc, Vmadc, Vmsbc, Vand, Vor, Vxor, Vsll, Vsrl, Vsra, Vmseq, Vmsne, Vmsltu, Vmslt, Vmsleu, Vmsle, Vmsgtu, Vmsgt, Vminu, Vmin, Vmaxu, Vmax, Vmerge, VmvV, Vnsrl, Vnsra, Vnclipu, Vnclip, Vsaddu, Vsadd, Vssubu, Vssub, Vsmul, Vssrl, Vssra}
 use Rattle.rvv_decode.specs.declared.instruction.OpmOp.TheVariants.{Vdivu, Vdiv, Vremu, Vrem, Vmulhu, Vmul, Vmulhsu, Vmulh, Vmadd, Vnmsub, Vmacc, Vnmsac, VzextVf2, VzextVf4, VsextVf2, VsextVf4, Vwaddu, Vwadd, Vwsubu, Vwsub, VwadduW, VwaddW, VwsubuW, VwsubW, Vwmulu, Vwmulsu, Vwmul, Vwmaccu, Vwmacc, Vwmaccus, Vwmaccsu, Vaaddu, Vaadd, Vasubu, Vasub}
 use Rattle.rvv_decode.specs.declared.instruction.VOp.{VOp}
 use Rattle.rvv_decode.specs.declared.instruction.VOp.TheVariants.{Opi, Opm, Config, Memory}
@@ -99,10 +99,15 @@ abbrev pub Unmasked : (bits : Bool) → (plain masked : Listed) → Type 0
 Unmasked false plain masked = (w mode a b d : ℕ) (m : Bool) → value_of plain w mode a b d m ≡ value_of masked w mode a b d false
 Unmasked true plain masked = (w a b : ℕ) (m : Bool) → truth_of plain w a b m ≡ truth_of masked w a b false
 
--- the operation can be computed half by half
+-- the operation can be computed half by half, and what it clips too
+pub record Halved (r : Recipe) (o : Operation) : Type 0 where
+  pub value : IsOfHalves o
+  pub flag : IsOfHalves (flag_of o)
+  pub straight : r.order ≡ Straight
+
 abbrev pub ForHalves : (halves : Bool) → Recipe → Operation → Type 0
 ForHalves false r o = Unit {0}
-ForHalves true r o = IsOfHalves o × (r.order ≡ Straight)
+ForHalves true r o = Halved r o
 
 -- the one list of an operation that clips tells what it clips
 pub record Clipping (r : Recipe) (o : Operation) : Type 0 where
@@ -167,8 +172,10 @@ fits (Opi Vmaxu) = record { same = refl; ignores = tt; means = λ w mode a b d m
 fits (Opi Vmax) = record { same = refl; ignores = tt; means = λ w mode a b d m. refl; unmasked = λ w mode a b d m. refl; halves = tt; clips = refl }
 fits (Opi Vmerge) = record { same = refl; ignores = tt; means = λ w mode a b d m. refl; unmasked = λ w mode a b d m. refl; halves = tt; clips = refl }
 fits (Opi VmvV) = record { same = refl; ignores = λ w mode x y b d m. refl; means = λ w mode a b d m. refl; unmasked = λ w mode a b d m. refl; halves = tt; clips = refl }
-fits (Opi Vnsrl) = record { same = refl; ignores = tt; means = λ w mode a b d m. refl; unmasked = λ w mode a b d m. refl; halves = (record { ignores = λ w mode a b d m. refl; a = refl; b = refl; immediate = refl }, refl); clips = refl }
-fits (Opi Vnsra) = record { same = refl; ignores = tt; means = λ w mode a b d m. refl; unmasked = λ w mode a b d m. refl; halves = (record { ignores = λ w mode a b d m. refl; a = refl; b = refl; immediate = refl }, refl); clips = refl }
+fits (Opi Vnsrl) = record { same = refl; ignores = tt; means = λ w mode a b d m. refl; unmasked = λ w mode a b d m. refl; halves = record { value = record { ignores = λ w mode a b d m. refl; a = refl; b = refl; immediate = refl }; flag = record { ignores = λ w mode a b d m. refl; a = refl; b = refl; immediate = refl }; straight = refl }; clips = refl }
+fits (Opi Vnsra) = record { same = refl; ignores = tt; means = λ w mode a b d m. refl; unmasked = λ w mode a b d m. refl; halves = record { value = record { ignores = λ w mode a b d m. refl; a = refl; b = refl; immediate = refl }; flag = record { ignores = λ w mode a b d m. refl; a = refl; b = refl; immediate = refl }; straight = refl }; clips = refl }
+fits (Opi Vnclipu) = record { same = refl; ignores = tt; means = λ w mode a b d m. refl; unmasked = λ w mode a b d m. refl; halves = record { value = record { ignores = λ w mode a b d m. refl; a = refl; b = refl; immediate = refl }; flag = record { ignores = λ w mode a b d m. refl; a = refl; b = refl; immediate = refl }; straight = refl }; clips = record { takes = refl; plain = refl; ignores = tt; means = λ w mode a b d. refl } }
+fits (Opi Vnclip) = record { same = refl; ignores = tt; means = λ w mode a b d m. refl; unmasked = λ w mode a b d m. refl; halves = record { value = record { ignores = λ w mode a b d m. refl; a = refl; b = refl; immediate = refl }; flag = record { ignores = λ w mode a b d m. refl; a = refl; b = refl; immediate = refl }; straight = refl }; clips = record { takes = refl; plain = refl; ignores = tt; means = λ w mode a b d. refl } }
 fits (Opi Vsmul) = record { same = refl; ignores = tt; means = λ w mode a b d m. refl; unmasked = λ w mode a b d m. refl; halves = tt; clips = record { takes = refl; plain = refl; ignores = tt; means = λ w mode a b d. refl } }
 fits (Opi Vssrl) = record { same = refl; ignores = tt; means = λ w mode a b d m. refl; unmasked = λ w mode a b d m. refl; halves = tt; clips = refl }
 fits (Opi Vssra) = record { same = refl; ignores = tt; means = λ w mode a b d m. refl; unmasked = λ w mode a b d m. refl; halves = tt; clips = refl }

@@ -11,7 +11,7 @@ use Rattle.rvv_decode.specs.declared.instruction.VInstr.{VInstr}
 use Rattle.vtype_cfg.specs.declared.configuration.Cfg.{Cfg}
 use Rattle.rvv_meaning.specs.Elementwise.{is_ones}
 use Rattle.vec_exec.specs.declared.recipes.Listed.{Listed}
-use Rattle.vec_exec.specs.declared.recipes.Listed.TheVariants.{Bits, Sums, Truths, Choices, Shifts, Products, Fractions, Roundings, Averages, Saturations, Divisions, Copies, Halves}
+use Rattle.vec_exec.specs.declared.recipes.Listed.TheVariants.{Bits, Sums, Truths, Choices, Shifts, Products, Fractions, Roundings, Averages, Saturations, Divisions, Copies, Halves, Clips}
 use Rattle.vec_exec.specs.declared.recipes.Recipe.{Recipe}
 use Rattle.frame_laws.specs.Classes.Halved.{halves_row, halves_list}
 use Rattle.frame_laws.specs.Classes.Operands.{laid_out}
@@ -21,8 +21,12 @@ use Rattle.frame_meaning.specs.Halves.{half_count}
 use Rattle.frame_meaning.specs.Shapes.{has_scalar}
 use Rattle.micro_ir.specs.Pieces.{commit}
 use Rattle.micro_ir.specs.Steps.{micros}
-use Rattle.vec_exec.specs.Recipes.{list_of, tells_clips}
-use Rattle.vec_exec.specs.Programs.{reads, masked, list_for, width_of, operands_of, halves_of, scalar_list, window_list, fill_list, free_bits, mask_fill_list, kind_list, truth_list, wide_lists, body_list, half_list_of, first_in, register_list, registers_list, mask_register_list, mask_registers_list, half_register_list, half_registers_list, element_program, mask_program, half_program}
+use Rattle.gen_fixed.specs.Kinds.{clip_ops}
+use Rattle.gen_shift.specs.Kinds.{rounding_ops}
+use Rattle.gen_shift.specs.Rows.{rounded_row}
+use Rattle.rvv_meaning.specs.Operations.{log2}
+use Rattle.vec_exec.specs.Recipes.{shift_of, moved_in, makes_halves, rows, list_of, tells_clips}
+use Rattle.vec_exec.specs.Programs.{test_list, reads, masked, list_for, width_of, operands_of, halves_of, scalar_list, window_list, fill_list, free_bits, mask_fill_list, kind_list, truth_list, wide_lists, body_list, half_list_of, first_in, register_list, registers_list, mask_register_list, mask_registers_list, half_register_list, half_registers_list, element_program, mask_program, half_program}
 
 -- a list that is there, or not
 cond-keep : (b : Bool) (ops : List MicroOp) → all_keep_control ops ≡ true → all_keep_control (cond b ops []) ≡ true
@@ -44,6 +48,26 @@ list-keep (Roundings right) w mode a b d to quiet = micros-keep w _
 list-keep (Divisions kind) w mode a b d to quiet = micros-keep w _
 list-keep Copies w mode a b d to quiet = micros-keep w _
 list-keep (Halves kind) w mode a b d to quiet = micros-keep (2 * w) _
+list-keep (Clips kind) w mode a b d to quiet = absurd (false≢true (sym quiet))
+
+-- a list that computes half by half leaves them, also where it tells clips
+pub wide-keep : (list : Listed) (w mode a b d to : ℕ) → makes_halves list ≡ true → all_keep_control (list_of list w mode a b d to) ≡ true
+unfolding list_of
+wide-keep (Halves kind) w mode a b d to halves = micros-keep (2 * w) _
+wide-keep (Clips kind) w mode a b d to halves =
+    keep-append (rounding_ops (shift_of (moved_in kind)) (2 * w) (log2 (2 * w)) (rows mode a b d to)) (clip_ops kind w (rounded_row mode (log2 (2 * w)))) (micros-keep (2 * w) _) (micros-keep (2 * w) _)
+wide-keep (Bits kind) w mode a b d to halves = absurd (false≢true halves)
+wide-keep (Sums kind) w mode a b d to halves = absurd (false≢true halves)
+wide-keep (Truths kind) w mode a b d to halves = absurd (false≢true halves)
+wide-keep (Choices kind) w mode a b d to halves = absurd (false≢true halves)
+wide-keep (Shifts kind) w mode a b d to halves = absurd (false≢true halves)
+wide-keep (Products kind) w mode a b d to halves = absurd (false≢true halves)
+wide-keep Fractions w mode a b d to halves = absurd (false≢true halves)
+wide-keep (Saturations kind) w mode a b d to halves = absurd (false≢true halves)
+wide-keep (Averages kind sub) w mode a b d to halves = absurd (false≢true halves)
+wide-keep (Roundings right) w mode a b d to halves = absurd (false≢true halves)
+wide-keep (Divisions kind) w mode a b d to halves = absurd (false≢true halves)
+wide-keep Copies w mode a b d to halves = absurd (false≢true halves)
 
 scalar-keep : (i : VInstr) (width number : ℕ) → all_keep_control (scalar_list i width number) ≡ true
 scalar-keep i width number = cond-keep (has_scalar i.form) _ (micros-keep width _)
@@ -99,9 +123,9 @@ module _ (r : Recipe) (i : VInstr) (c : Cfg) (quiet : tells_clips (list_for r i)
   unfolding half_register_list
   half-register-keep g =
       around-keep c.vtype.sew (first_in r i c c.vtype.sew g) (i.vd + g) (half_list_of r i c g)
-      (keep-append (halves_list c.vtype.sew (halves_of r i c) (wide_lists r i c) g (half_count c.vtype)) (micros c.vtype.sew (commit c.vtype.sew halves_row (i.vd + g)))
+      (keep-append (halves_list c.vtype.sew (halves_of r i c) (wide_lists r i c) g (half_count c.vtype)) (test_list (list_for r i) c.vtype.sew ++ micros c.vtype.sew (commit c.vtype.sew halves_row (i.vd + g)))
       (halves-keep c.vtype.sew (halves_of r i c) (wide_lists r i c) (λ q. list-keep (list_for r i) c.vtype.sew _ _ _ _ _ quiet) g (half_count c.vtype))
-      (micros-keep c.vtype.sew _))
+      (rw quiet (micros-keep c.vtype.sew _)))
 
   half-registers-keep : (count : ℕ) → all_keep_control (half_registers_list r i c count) ≡ true
   unfolding half_registers_list

@@ -8,5 +8,6 @@ pub mod Written
 pub mod Keeping
 pub mod Placed
 pub mod Listing
+pub mod Clipped
 pub mod Chosen
 pub mod Planned

@@ -2,22 +2,22 @@
 use Rattle.std.proofs.Common.{◌≡◌, ℕ, ◌*◌, ◌≤◌, Bool, true, false, ◌&&◌, List, refl, sym, subst, arith}
 use Rattle.std.proofs.lemmas.Bool.{ne_eqb, false≢true}
 use Rattle.gen_shift.specs.Laws.{LeavesValue}
-use Rattle.gen_shift.specs.Rows.{is_among, shift_rows}
+use Rattle.gen_shift.specs.Rows.{is_among}
 use Rattle.micro_ir.specs.declared.op.MicroOp.{MicroOp}
 use Rattle.micro_ir.specs.Kinds.{Realises}
-use Rattle.micro_ir.specs.WorkRows.{scalar_row}
+use Rattle.micro_ir.specs.WorkRows.{scalar_row, truth_row}
 use Rattle.micro_ir.proofs.Valued.{realises-same}
 use Rattle.rvv_decode.specs.declared.instruction.VInstr.{VInstr}
 use Rattle.vtype_cfg.specs.declared.configuration.Cfg.{Cfg}
 use Rattle.rvv_meaning.specs.Operations.{Operation, reads_mask}
-use Rattle.frame_laws.specs.Classes.Halved.{LeavesLow}
+use Rattle.frame_laws.specs.Classes.Halved.{LeavesLow, LeavesFlag, halves_row}
 use Rattle.frame_laws.proofs.Classes.Halves.{leaves-low}
 use Rattle.frame_meaning.specs.declared.Order.{Order}
 use Rattle.frame_meaning.specs.Shapes.{width_in, value_by, value_in}
 use Rattle.vec_exec.specs.declared.recipes.Listed.{Listed}
-use Rattle.vec_exec.specs.declared.recipes.Listed.TheVariants.{Bits, Sums, Truths, Choices, Shifts, Products, Fractions, Roundings, Averages, Saturations, Divisions, Copies, Halves}
+use Rattle.vec_exec.specs.declared.recipes.Listed.TheVariants.{Bits, Sums, Truths, Choices, Shifts, Products, Fractions, Roundings, Averages, Saturations, Divisions, Copies, Halves, Clips}
 use Rattle.row_views.specs.Clips.{ClipsWhere}
-use Rattle.vec_exec.specs.Recipes.{makes_bits, makes_halves, tells_clips, takes_row, value_of, list_of, Computes}
+use Rattle.vec_exec.specs.Recipes.{makes_bits, written_rows, tells_clips, takes_row, value_of, list_of, Computes}
 
 -- ---- lists
 
@@ -41,7 +41,7 @@ leaves-half w d row work value ops wide leaves = leaves-low w row work value ops
 pub clips-same : (w : ℕ) (u v : (ℕ → ℕ) → Bool) (ops : List MicroOp) → ((n : ℕ → ℕ) → u n ≡ v n) → ClipsWhere w u ops → ClipsWhere w v ops
 clips-same w u v ops same tells = subst (λ (f : (ℕ → ℕ) → Bool). ClipsWhere w f ops) (λ z n. same n z) tells
 
--- a list that tells truths for a mask tells no clips, nor does one that computes half by half
+-- a list that tells truths for a mask tells no clips
 pub bits-quiet : (list : Listed) → makes_bits list ≡ true → tells_clips list ≡ false
 bits-quiet (Bits kind) bits = refl
 bits-quiet (Sums kind) bits = refl
@@ -56,22 +56,35 @@ bits-quiet (Roundings right) bits = refl
 bits-quiet (Divisions kind) bits = refl
 bits-quiet Copies bits = refl
 bits-quiet (Halves kind) bits = refl
+bits-quiet (Clips kind) bits = absurd (false≢true bits)
 
-pub halves-quiet : (list : Listed) → makes_halves list ≡ true → tells_clips list ≡ false
-halves-quiet (Bits kind) halves = refl
-halves-quiet (Sums kind) halves = refl
-halves-quiet (Truths kind) halves = refl
-halves-quiet (Choices kind) halves = refl
-halves-quiet (Shifts kind) halves = refl
-halves-quiet (Products kind) halves = refl
-halves-quiet Fractions halves = absurd (false≢true halves)
-halves-quiet (Saturations kind) halves = absurd (false≢true halves)
-halves-quiet (Averages kind sub) halves = refl
-halves-quiet (Roundings right) halves = refl
-halves-quiet (Divisions kind) halves = refl
-halves-quiet Copies halves = refl
-halves-quiet (Halves kind) halves = refl
+-- no row up to that of the scalar is one that a list of halves works in, nor is that of the halves, or that of truths
+pub spared : (list : Listed) (q : ℕ) → q ≤ scalar_row → is_among (written_rows list) q ≡ false
+spared (Clips kind) q small =
+    rw (
+      ne_eqb q 35 (omega arith),
+      ne_eqb q 36 (omega arith),
+      ne_eqb q 49 (omega arith),
+      ne_eqb q 46 (omega arith),
+      ne_eqb q 47 (omega arith),
+      ne_eqb q 48 (omega arith),
+      ne_eqb q 37 (omega arith),
+      ne_eqb q 40 (omega arith),
+      ne_eqb q 38 (omega arith),
+      ne_eqb q 39 (omega arith),
+      ne_eqb q 50 (omega arith),
+      ne_eqb q 51 (omega arith),
+    ) refl
+spared _ q small = rw (ne_eqb q 49 (omega arith), ne_eqb q 37 (omega arith), ne_eqb q 40 (omega arith), ne_eqb q 38 (omega arith), ne_eqb q 39 (omega arith)) refl
 
--- no row up to that of the scalar is one that shifts work in
-pub spared : (q : ℕ) → q ≤ scalar_row → is_among shift_rows q ≡ false
-spared q small = rw (ne_eqb q 49 (omega arith), ne_eqb q 37 (omega arith), ne_eqb q 40 (omega arith), ne_eqb q 38 (omega arith), ne_eqb q 39 (omega arith)) refl
+pub spared-halves : (list : Listed) → is_among (written_rows list) halves_row ≡ false
+spared-halves (Clips kind) = refl
+spared-halves _ = refl
+
+pub spared-flags : (list : Listed) → is_among (written_rows list) truth_row ≡ false
+spared-flags (Clips kind) = refl
+spared-flags _ = refl
+
+-- a list that tells clips by one truth tells them by each that is the same
+pub flags-same : (w row : ℕ) (u v : (ℕ → ℕ) → Bool) (ops : List MicroOp) → ((n : ℕ → ℕ) → u n ≡ v n) → LeavesFlag w row u ops → LeavesFlag w row v ops
+flags-same w row u v ops same tells = subst (λ (f : (ℕ → ℕ) → Bool). LeavesFlag w row f ops) (λ z n. same n z) tells

@@ -25,7 +25,7 @@ use Rattle.frame_meaning.specs.Shapes.{source_in_vs1, narrow_in_vs1, class_in}
 use Rattle.frame_meaning.specs.Halves.{half_count, half_in_vs1}
 use Rattle.frame_meaning.proofs.Halves.{HalvesThere, halves-there}
 use Rattle.vec_exec.specs.declared.recipes.Listed.{Listed}
-use Rattle.vec_exec.specs.declared.recipes.Listed.TheVariants.{Bits, Sums, Truths, Choices, Shifts, Products, Fractions, Roundings, Averages, Saturations, Divisions, Copies, Halves}
+use Rattle.vec_exec.specs.declared.recipes.Listed.TheVariants.{Bits, Sums, Truths, Choices, Shifts, Products, Fractions, Roundings, Averages, Saturations, Divisions, Copies, Halves, Clips}
 use Rattle.vec_exec.specs.declared.recipes.Recipe.{Recipe}
 use Rattle.vec_exec.specs.Recipes.{takes_laid, uses_wide_rows, FitsRows}
 use Rattle.vec_exec.specs.Programs.{width_of, count_of, IsLayable, IsPlaced, IsMaskPlaced, IsHalfPlaced}
@@ -93,6 +93,7 @@ plain-rows (Saturations kind) a b laid first second = (operand-row a first, oper
 plain-rows (Averages kind sub) a b laid first second = (operand-row a first, operand-row b second)
 plain-rows (Roundings right) a b laid first second = (operand-row a first, operand-row b second)
 plain-rows (Halves kind) a b laid first second = (operand-row a first, operand-row b second)
+plain-rows (Clips kind) a b laid first second = (operand-row a first, operand-row b second)
 plain-rows Copies a b laid first second = absurd (false≢true (sym laid))
 
 pub wide-rows : (list : Listed) (a b : ℕ) → takes_laid list ≡ false → uses_wide_rows list ≡ false → IsOperandRow a → IsOperandRow b → FitsRows list a b
@@ -108,6 +109,7 @@ wide-rows (Saturations kind) a b laid free first second = (first, second)
 wide-rows (Averages kind sub) a b laid free first second = (first, second)
 wide-rows (Roundings right) a b laid free first second = (first, second)
 wide-rows (Halves kind) a b laid free first second = (first, second)
+wide-rows (Clips kind) a b laid free first second = (first, second)
 wide-rows Copies a b laid free first second = absurd (false≢true (sym laid))
 
 pub laid-rows : (list : Listed) (b : ℕ) → takes_laid list ≡ true → IsOperandRow b → FitsRows list result_row b
@@ -124,6 +126,7 @@ laid-rows (Saturations kind) b laid second = absurd (false≢true laid)
 laid-rows (Averages kind sub) b laid second = absurd (false≢true laid)
 laid-rows (Roundings right) b laid second = absurd (false≢true laid)
 laid-rows (Halves kind) b laid second = absurd (false≢true laid)
+laid-rows (Clips kind) b laid second = absurd (false≢true laid)
 
 -- rows that fit a list are rows
 pub operand-small : (r : ℕ) → IsOperandRow r → r < 64
@@ -152,6 +155,7 @@ fits-small (Saturations kind) a b fit = both-small a b fit
 fits-small (Averages kind sub) a b fit = both-small a b fit
 fits-small (Roundings right) a b fit = both-small a b fit
 fits-small (Halves kind) a b fit = both-small a b fit
+fits-small (Clips kind) a b fit = both-small a b fit
 fits-small Copies a b fit = let is : a ≡ 36 = fit.0 in (omega arith, operand-small b fit.1)
 
 -- an operand that can be read can be laid out
@@ -249,8 +253,8 @@ half-second i c V g h wide inside first room =
 half-second i c X g h wide inside first room = (inr (inr (inl refl)), tt)
 half-second i c I g h wide inside first room = (inr (inr (inl refl)), tt)
 
-pub half-planned : (r : Recipe) (i : VInstr) (c : Cfg) → HalfLegal i c → HalfPlans r i c
-half-planned r i c legal =
+pub half-planned : (r : Recipe) (i : VInstr) (c : Cfg) → c.vxrm ≤ 3 → HalfLegal i c → HalfPlans r i c
+half-planned r i c mode legal =
     let facts = legal.written in
     let there = legal.there in
     let wide : registers_for c.vtype (2 * c.vtype.sew) ≤ 32 = let room = legal.source.place.room in omega arith in
@@ -258,6 +262,7 @@ half-planned r i c legal =
       narrow = half-narrow c.vtype.sew facts.sew legal.source.width;
       few = facts.place.few;
       placed = λ g inside. record {
+        mode = mode;
         vd = let room : i.vd + registers_for c.vtype c.vtype.sew ≤ 32 = facts.place.room in omega arith;
         wide = half-built c.vtype.sew (half-narrow c.vtype.sew facts.sew legal.source.width);
         a = λ h first. let room : i.vs2 + registers_for c.vtype (2 * c.vtype.sew) ≤ 32 = legal.source.place.room in omega (arith, there.inside g h inside first);

@@ -1,5 +1,5 @@
 -- What legality says of the rows of an instruction; and what its program does and costs.
-use Rattle.std.proofs.Common.{◌≡◌, inl, inr, ℕ, ◌+◌, ◌*◌, ◌/◌, ◌<◌, ◌≤◌, true, false, cond, List, Some, refl, sym, ◌∙◌, subst, arith, ⊎_elim}
+use Rattle.std.proofs.Common.{◌≡◌, inl, inr, ℕ, ◌+◌, ◌*◌, ◌/◌, ◌<◌, ◌≤◌, true, false, cond, List, None, Some, refl, sym, ◌∙◌, subst, arith, ⊎_elim}
 use Rattle.std.specs.Prelude.{IsTrue}
 use Rattle.std.proofs.lemmas.Bool.{cases_Bool}
 use Rattle.bit_rows.specs.Slices.{Slices, blank}
@@ -31,18 +31,18 @@ use Rattle.frame_meaning.specs.Costs.{ElementsMeasured}
 use Rattle.frame_meaning.specs.Halves.{half_elements, half_shape}
 use Rattle.frame_meaning.specs.Masks.{compare_operands, CompareMeasured}
 use Rattle.frame_meaning.proofs.Instructions.{facts-of, is-plain, elements_meaning_law, elements_cost_law}
-use Rattle.frame_meaning.proofs.Clips.{elements_clip_law}
+use Rattle.frame_meaning.proofs.Clips.{elements_clip_law, halves_clip_law}
 use Rattle.frame_meaning.proofs.Halves.{halves_meaning_law, halves_cost_law}
 use Rattle.frame_meaning.proofs.Masks.{compare_meaning_law, compare_cost_law}
 use Rattle.vec_exec.specs.declared.recipes.Listed.{Listed}
 use Rattle.vec_exec.specs.declared.recipes.Recipe.{Recipe}
 use Rattle.vec_exec.specs.Recipes.{recipe_for, makes_bits, makes_halves, takes_laid, uses_wide_rows, truth_of, tells_clips, counts_of, length_of}
-use Rattle.vec_exec.specs.Programs.{list_for, width_of, count_of, kind_list, truth_list, wide_lists, body_counts, body_length, half_counts, half_length, element_program, mask_program, half_program, IsMade, IsMaskMade, IsHalfMade, prog, program_by, cost, cost_by}
+use Rattle.vec_exec.specs.Programs.{list_for, width_of, count_of, kind_list, truth_list, wide_lists, body_counts, body_length, half_counts, half_length, element_program, mask_program, half_program, IsMade, IsMaskMade, IsHalfMade, prog, program_by, whole_program, whole_cost, cost, cost_by}
 use Rattle.vec_exec.proofs.Keeping.{elements-keep, mask-keep, halves-keep-program}
 use Rattle.vec_exec.proofs.Fits.{takes_one_laid, has_wide_rows, Clipping, Fits}
 use Rattle.vec_exec.proofs.Placed.{valid-setting, valid-length, valid-mode, valid-short, second-row, wide-row, compared-row, operand-row, plain-rows, wide-rows, laid-rows, operand-small, fits-small, layable, second-layable, wide-layable, Rows, Plans, MaskPlans, HalfPlans, source-half, source-quarter, half-legal, half-wide, half-planned}
-use Rattle.vec_exec.proofs.Listing.{bits-quiet, halves-quiet}
-use Rattle.vec_exec.proofs.Chosen.{bits-list, class, clip-told, computed, elements-list, free-for, half-class, halves-list, laid-for, leaves-all, mask-class, mask-laid, of-halves, quiet-clips, signs, tells-for, told, truth}
+use Rattle.vec_exec.proofs.Listing.{bits-quiet}
+use Rattle.vec_exec.proofs.Chosen.{bits-list, class, clip-told, computed, elements-list, flags-all, free-for, half-class, halves-list, laid-for, leaves-all, mask-class, mask-laid, of-halves, quiet-clips, signs, tells-for, told, truth}
 
 -- ---- rows of an instruction
 
@@ -171,7 +171,7 @@ module _ (r : Recipe) (o : Operation) (i : VInstr) (c : Cfg) (x : ℕ) (f : Fits
       }
 
   pub half-plans : makes_bits r.masked ≡ false → makes_halves r.masked ≡ true → HalfPlans r i c
-  half-plans numbers halves = half-planned r i c (half-legal i c (valid-setting c valid) legal (half-class r o i c x f numbers halves))
+  half-plans numbers halves = half-planned r i c (valid-mode c valid) (half-legal i c (valid-setting c valid) legal (half-class r o i c x f numbers halves))
 
   -- ---- programs of elements
 
@@ -207,12 +207,20 @@ module _ (r : Recipe) (o : Operation) (i : VInstr) (c : Cfg) (x : ℕ) (f : Fits
       → registers_of (replay (half_program r i c x) s) ≡ registers_after c (on_elements i c x o) (registers_of s)
   halves-realised numbers halves made small s long =
       rw (halves-list r o i c x f numbers halves (half-wide (half-plans numbers halves).narrow))
-      (halves_meaning_law o i c x (wide_lists r i c) s (of-halves r o i c x f numbers halves).0 (runs s long small) (valid-short c valid) (half-class r o i c x f numbers halves) (leaves-all r o i c x f numbers halves made))
+      (halves_meaning_law o i c x (wide_lists r i c) s (of-halves r o i c x f numbers halves).value (runs s long small) (valid-short c valid) (half-class r o i c x f numbers halves) (leaves-all r o i c x f numbers halves made))
 
-  halves-clip : (numbers : makes_bits r.masked ≡ false) (halves : makes_halves r.masked ≡ true) (s : Slices) → c.vlen ≡ 32 * s.columns → clips (half_program r i c x) s ≡ clips_elements c (on_elements i c x o) (registers_of s)
-  halves-clip numbers halves s long =
-      let quiet = halves-quiet r.masked halves in
-      quiet-clips r o i c x f (half_program r i c x) s quiet (halves-keep-program r i c (tells-for r o i c x f ∙ quiet) x)
+  halves-clip : (numbers : makes_bits r.masked ≡ false) (halves : makes_halves r.masked ≡ true) → ((g : ℕ) → g < registers_for c.vtype c.vtype.sew → IsHalfMade r i c g) → i.vs1 < 32 → (s : Slices) → c.vlen ≡ 32 * s.columns
+      → clips (half_program r i c x) s ≡ clips_elements c (on_elements i c x o) (registers_of s)
+  halves-clip numbers halves made small s long =
+      ⊎_elim
+      (λ (told : tells_clips r.masked ≡ true).
+      let clip : Clipping r o = rw told at f.clips in
+      let half = of-halves r o i c x f numbers halves in
+      rw (halves-list r o i c x f numbers halves (half-wide (half-plans numbers halves).narrow))
+      (halves_clip_law o i c x (wide_lists r i c) s half.value half.flag (runs s long small) (valid-short c valid) (half-class r o i c x f numbers halves) (leaves-all r o i c x f numbers halves made)
+      (flags-all r o i c x f numbers halves clip told made)))
+      (λ (quiet : tells_clips r.masked ≡ false). quiet-clips r o i c x f (half_program r i c x) s quiet (halves-keep-program r i c (tells-for r o i c x f ∙ quiet) x))
+      (cases_Bool (tells_clips r.masked))
 
   pub halves-measured : (numbers : makes_bits r.masked ≡ false) (halves : makes_halves r.masked ≡ true) → ((g : ℕ) → g < registers_for c.vtype c.vtype.sew → IsHalfMade r i c g) → i.vs1 < 32
       → ElementsMeasured i c (blank (c.vlen / 32)) (registers_for c.vtype c.vtype.sew) (reads_mask i o) (half_counts r i c) (half_length r i c) (half_program r i c x)
@@ -273,7 +281,7 @@ module _ (r : Recipe) (o : Operation) (i : VInstr) (c : Cfg) (x : ℕ) (f : Fits
   halves-fine is numbers halves made small =
       let m = halves-measured numbers halves made small in
       record {
-        realises = rw (halves-program numbers halves) (realised (half_program r i c x) is (halves-realised numbers halves made small) (halves-clip numbers halves));
+        realises = rw (halves-program numbers halves) (realised (half_program r i c x) is (halves-realised numbers halves made small) (halves-clip numbers halves made small));
         cost = rw (halves-program numbers halves) (m.cost ∙ sym (rw (numbers, halves) refl));
         range = rw (halves-program numbers halves) m.range;
       }
@@ -300,3 +308,12 @@ prog-is r i c x named = rw named refl
 pub cost-is : (r : Recipe) (i : VInstr) (c : Cfg) → recipe_for i.op ≡ Some r → cost i c ≡ cost_by r i c
 unfolding cost
 cost-is r i c named = rw named refl
+
+-- those of one that reads whole groups or masks
+pub whole-prog : (i : VInstr) (c : Cfg) (x : ℕ) → recipe_for i.op ≡ None → prog i c x ≡ whole_program i c
+unfolding prog
+whole-prog i c x none = rw none refl
+
+pub whole-costs : (i : VInstr) (c : Cfg) → recipe_for i.op ≡ None → cost i c ≡ whole_cost i c
+unfolding cost
+whole-costs i c none = rw none refl

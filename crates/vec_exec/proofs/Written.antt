@@ -1,11 +1,11 @@
 -- The programs as the code writes them.
-use Rattle.std.proofs.Common.{◌≡◌, ℕ, ◌+◌, ◌-◌, ◌*◌, ◌/◌, ◌%◌, ◌^◌, ◌<◌, ◌≤◌, Bool, true, false, cond, nat_lt, List, [], ◌∷◌, ◌++◌, zero, suc, max, length, eqb, refl, sym, ◌∙◌, ap, subst, arith, inl, inr, ⊎_elim, length-append}
+use Rattle.std.proofs.Common.{◌≡◌, ℕ, ◌+◌, ◌-◌, ◌*◌, ◌/◌, ◌%◌, ◌^◌, ◌<◌, ◌≤◌, Bool, true, false, cond, nat_lt, List, [], ◌∷◌, ◌++◌, zero, suc, max, length, eqb, refl, sym, ◌∙◌, ap, subst, arith, inl, inr, ⊎_elim, length-append, append_assoc}
 use Rattle.std.proofs.lemmas.Bool.{cases_lt, false≢true}
 use Rattle.std.proofs.lemmas.Nat.{mul-le, div-mul-add}
 use Rattle.std.proofs.Math.Nat.{mod-eq_of_lt, mod-lt, mul-le-mul_right}
 use Rattle.cam_chain.specs.declared.counts.Counts.{Counts}
 use Rattle.cam_chain.specs.ChainValue.{no_counts}
-use Rattle.frame_laws.specs.Classes.Halved.{halves_row, half_list, halves_list}
+use Rattle.frame_laws.specs.Classes.Halved.{half_list, halves_list}
 use Rattle.frame_laws.specs.Classes.Operands.{Operand, group, scalar, narrow, laid_out}
 use Rattle.frame_laws.specs.Costs.{counts_times}
 use Rattle.frame_meaning.specs.Halves.{half_count, half_in_vs1}
@@ -13,10 +13,13 @@ use Rattle.frame_meaning.specs.Shapes.{source_in_vs1, narrow_in_vs1, operands_in
 use Rattle.frame_meaning.specs.declared.Order.{Order}
 use Rattle.frame_meaning.specs.declared.Order.TheVariants.{Straight, Reversed, Second, Exchanged, Widening, WideSource, Half, Quarter}
 use Rattle.frame_meaning.specs.declared.Signs.{Signs}
+use Rattle.gen_fixed.specs.Kinds.{clip_length}
+use Rattle.gen_fixed.specs.declared.kinds.Clipping.{Clipping}
+use Rattle.gen_fixed.specs.declared.kinds.Clipping.TheVariants.{Clipu, Clip}
 use Rattle.gen_mul.specs.Fractions.{smul_length}
 use Rattle.gen_shift.specs.Kinds.{raw_length, mode_length}
 use Rattle.gen_shift.specs.Lists.{mode_on}
-use Rattle.gen_shift.specs.Rows.{is_odd, shift_role, shifted_row}
+use Rattle.gen_shift.specs.Rows.{is_odd, shift_role}
 use Rattle.gen_shift.specs.declared.kinds.Shift.{Shift}
 use Rattle.gen_shift.specs.declared.kinds.Shift.TheVariants.{Sll, Srl, Sra}
 use Rattle.legal_groups.specs.Facts.{IsElementWidth, registers_for, group_count}
@@ -35,9 +38,9 @@ use Rattle.rvv_meaning.specs.Operations.{log2}
 use Rattle.vtype_cfg.specs.declared.configuration.Cfg.{Cfg}
 use Rattle.vtype_cfg.specs.declared.vtype.Vtype.{Vtype}
 use Rattle.vec_exec.specs.declared.recipes.Listed.{Listed}
-use Rattle.vec_exec.specs.declared.recipes.Listed.TheVariants.{Bits, Sums, Truths, Choices, Shifts, Products, Fractions, Roundings, Averages, Saturations, Divisions, Copies, Halves}
+use Rattle.vec_exec.specs.declared.recipes.Listed.TheVariants.{Bits, Sums, Truths, Choices, Shifts, Products, Fractions, Roundings, Averages, Saturations, Divisions, Copies, Halves, Clips}
 use Rattle.vec_exec.specs.declared.recipes.Recipe.{Recipe}
-use Rattle.vec_exec.specs.Recipes.{makes_bits, makes_halves, length_of}
+use Rattle.vec_exec.specs.Recipes.{shift_of, moved_in, makes_bits, makes_halves, value_row, tells_clips, length_of}
 use Rattle.rvv_meaning.specs.Elementwise.{is_ones}
 use Rattle.vec_exec.specs.Programs.{reads, list_for, width_of, operands_of, halves_of, wide_lists, laid_length, laid_counts, IsLayable, one_half_length, free_count, register_list, register_length, registers_list, mask_register_list, mask_register_length, mask_registers_list, half_register_list, half_register_length, half_registers_list}
 use Rattle.vec_exec.proofs.Widths.{log2-is, log2-small}
@@ -87,6 +90,7 @@ bits-no-halves (Roundings right) bits = refl
 bits-no-halves (Divisions kind) bits = refl
 bits-no-halves Copies bits = refl
 bits-no-halves (Halves kind) bits = absurd (false≢true bits)
+bits-no-halves (Clips kind) bits = absurd (false≢true bits)
 
 -- ---- registers
 
@@ -123,6 +127,14 @@ module _ (r : Recipe) (i : VInstr) (c : Cfg) where
   pub half-more : (g h : ℕ) → halves_list c.vtype.sew (halves_of r i c) (wide_lists r i c) g (h + 1) ≡ halves_list c.vtype.sew (halves_of r i c) (wide_lists r i c) g h ++ half_list c.vtype.sew (halves_of r i c) (wide_lists r i c) g h
   unfolding halves_list
   half-more g h = let e : h + 1 ≡ suc h = omega arith in rw e refl
+
+-- lists that are appended one after the other
+pub four-parts : (xs a b c d s1 s2 s3 s4 : List MicroOp) → s1 ≡ xs ++ a → s2 ≡ s1 ++ b → s3 ≡ s2 ++ c → s4 ≡ s3 ++ d → s4 ≡ xs ++ (a ++ (b ++ (c ++ d)))
+four-parts xs a b c d s1 s2 s3 s4 e1 e2 e3 e4 = rw (e4, e3, e2, e1) (simp append_assoc)
+
+-- lists that are appended to the operations that stand round the halves of a register
+pub five-parts : (xs a b c d e s1 s2 s3 s4 s5 : List MicroOp) → s1 ≡ xs ++ a → s2 ≡ s1 ++ b → s3 ≡ s2 ++ c → s4 ≡ s3 ++ d → s5 ≡ s4 ++ e → s5 ≡ xs ++ (a ++ ((b ++ (c ++ d)) ++ e))
+five-parts xs a b c d e s1 s2 s3 s4 s5 e1 e2 e3 e4 e5 = rw (e5, e4, e3, e2, e1) (simp append_assoc)
 
 -- what holds of each register below g and of register g holds of each below g + 1
 pub one-more : (P : ℕ → Type 0) (g : ℕ) → ((k : ℕ) → k < g → P k) → P g → (k : ℕ) → k < g + 1 → P k
@@ -279,16 +291,17 @@ width-built w l power divides least = by-log l (log2-is w l power divides least)
         absurd (omega (arith, is, small))
 
 -- the operation that takes the low halves
-pub measured-narrow : (from wide part : ℕ) → from < 64 → is_wide wide ≡ true → part ≤ 1 → Measured no_counts 1 (Narrow from halves_row wide part ∷ [])
-measured-narrow from wide part row built first = record {
-  cost = tally-one (Narrow from halves_row wide part);
+pub measured-narrow : (from to wide part : ℕ) → from < 64 → to < 64 → is_wide wide ≡ true → part ≤ 1 → Measured no_counts 1 (Narrow from to wide part ∷ [])
+measured-narrow from to wide part row other built first = record {
+  cost = tally-one (Narrow from to wide part);
   count = refl;
-  range = λ columns. AllInRange-one columns (Narrow from halves_row wide part) (row, omega arith, built, first);
+  range = λ columns. AllInRange-one columns (Narrow from to wide part) (row, other, built, first);
 }
 
--- the row that a shift leaves its result in
-pub shifted-low : (l : ℕ) → shifted_row l < 64
-shifted-low l = elim (is_odd l) as (λ b. shift_role b < 64) [ true ↦ omega arith | false ↦ omega arith ]
+-- the row that a list leaves its result in
+pub value-low : (list : Listed) (l : ℕ) → value_row list l < 64
+value-low (Clips kind) l = omega arith
+value-low _ l = elim (is_odd l) as (λ b. shift_role b < 64) [ true ↦ omega arith | false ↦ omega arith ]
 
 -- one half more
 pub halves-more : (n : ℕ) (c : Counts) → counts_and (counts_times n c) c ≡ counts_times (n + 1) c
@@ -323,10 +336,10 @@ values-few (suc zero) = omega arith
 values-few (suc (suc zero)) = omega arith
 values-few (suc (suc (suc n))) = omega arith
 
-pub mode-few : (mode w l : ℕ) → w ≤ 32 → l ≤ 5 → mode_length mode w l ≤ 400
+pub mode-few : (mode w l : ℕ) → w ≤ 64 → l ≤ 5 → mode_length mode w l ≤ 700
 mode-few mode w l most few = chosen (eqb mode 2)
   where
-    chosen : (b : Bool) → cond b 0 (5 * l + 9 * w + 3 + length (mode_on mode)) ≤ 400
+    chosen : (b : Bool) → cond b 0 (5 * l + 9 * w + 3 + length (mode_on mode)) ≤ 700
     chosen true = omega arith
     chosen false = omega (arith, values-few mode)
 
@@ -340,9 +353,18 @@ smul-few mode w most =
     chosen true = omega arith
     chosen false = omega (arith, values-few mode)
 
-pub half-list-few : (list : Listed) (w mode : ℕ) → makes_halves list ≡ true → w ≤ 32 → length_of list w mode ≤ 3000
+-- that of a clip
+clip-few : (kind : Clipping) (w : ℕ) → w ≤ 32 → clip_length kind w ≤ 500
+clip-few Clipu w most = omega arith
+clip-few Clip w most = omega arith
+
+pub half-list-few : (list : Listed) (w mode : ℕ) → makes_halves list ≡ true → w ≤ 32 → length_of list w mode ≤ 4200
 unfolding length_of
-half-list-few (Halves kind) w mode halves most = raw-few kind (2 * w) (log2 (2 * w)) (omega arith) (log2-small (2 * w))
+half-list-few (Halves kind) w mode halves most = let shift = raw-few kind (2 * w) (log2 (2 * w)) (omega arith) (log2-small (2 * w)) in omega (arith, shift)
+half-list-few (Clips kind) w mode halves most =
+    let shift = raw-few (shift_of (moved_in kind)) (2 * w) (log2 (2 * w)) (omega arith) (log2-small (2 * w)) in
+    let rounding = mode-few mode (2 * w) (log2 (2 * w)) (omega arith) (log2-small (2 * w)) in
+    omega (arith, shift, rounding, clip-few kind w most)
 half-list-few (Bits kind) w mode halves most = absurd (false≢true halves)
 half-list-few (Sums kind) w mode halves most = absurd (false≢true halves)
 half-list-few (Truths kind) w mode halves most = absurd (false≢true halves)
@@ -381,7 +403,9 @@ module _ (r : Recipe) (i : VInstr) (c : Cfg) (count : ℕ) (list-few : ListsFew)
       let second = laid-few (halves_of r i c).b (2 * c.vtype.sew) narrow_enough in
       let one = flag-few (reads r i) 1 in
       let three = flag-few (is_ones c.policy) 3 in
-      let half : one_half_length r i c ≤ 4000 = omega (arith, list, second) in
-      let both : half_count c.vtype * one_half_length r i c ≤ 2 * 4000 = mul-le (half_count c.vtype) (one_half_length r i c) 2 4000 (half-few c.vtype) half in
-      let each : half_register_length r i c ≤ 30200 = omega (arith, both, one, three) in
+      let flags = flag-few (tells_clips (list_for r i)) 1 in
+      let test = flag-few (tells_clips (list_for r i)) 2 in
+      let half : one_half_length r i c ≤ 5000 = omega (arith, list, second, flags) in
+      let both : half_count c.vtype * one_half_length r i c ≤ 2 * 5000 = mul-le (half_count c.vtype) (one_half_length r i c) 2 5000 (half-few c.vtype) half in
+      let each : half_register_length r i c ≤ 30200 = omega (arith, both, one, three, test) in
       mul-le count _ 8 30200 few each

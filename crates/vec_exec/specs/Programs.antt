@@ -3,7 +3,7 @@ use Rattle.std.specs.Prelude.{◌≡◌, ◌<◌, ◌≤◌, ℕ, zero, suc, ◌
 use Rattle.std.specs.Option.{option_map_or}
 use Rattle.cam_chain.specs.ChainValue.{no_counts}
 use Rattle.cam_chain.specs.declared.counts.Counts.{Counts}
-use Rattle.frame_laws.specs.Classes.Halved.{Pair, Lists, LeavesLow, halves_row, halves_list, half_list}
+use Rattle.frame_laws.specs.Classes.Halved.{Pair, Lists, LeavesLow, LeavesFlag, halves_row, halves_list, half_list, flag_test}
 use Rattle.frame_laws.specs.Classes.Operands.{Operand, group, scalar, narrow, row_of, laid_out}
 use Rattle.frame_laws.specs.Classes.Plain.{Operands, with_operands}
 use Rattle.frame_laws.specs.Costs.{counts_times}
@@ -11,7 +11,7 @@ use Rattle.frame_meaning.specs.Costs.{cost_of}
 use Rattle.frame_meaning.specs.Masks.{compare_cost_of, compare_operands}
 use Rattle.frame_meaning.specs.Halves.{half_count, half_operands, half_scalar}
 use Rattle.frame_meaning.specs.Shapes.{has_scalar, scalar_of, width_in, count_in, operands_in}
-use Rattle.gen_shift.specs.Rows.{shifted_row, shift_rows}
+use Rattle.gen_fixed.specs.Lists.{overflow_row}
 use Rattle.legal_groups.specs.Facts.{IsElementWidth, registers_for, group_count}
 use Rattle.mask_window.specs.Operations.{active_operation, free_operation}
 use Rattle.micro_ir.specs.Measures.{counts, Measured}
@@ -19,8 +19,9 @@ use Rattle.micro_ir.specs.Pieces.{splat, fill_step, commit}
 use Rattle.micro_ir.specs.Steps.{micros}
 use Rattle.micro_ir.specs.WorkRows.{IsOperandRow, active_row, mask_row, truth_row}
 use Rattle.micro_ir.specs.declared.op.MicroOp.{MicroOp}
-use Rattle.micro_ir.specs.declared.op.MicroOp.TheVariants.{Window, PackMask}
+use Rattle.micro_ir.specs.declared.op.MicroOp.TheVariants.{Window, PackMask, Narrow}
 use Rattle.micro_ir.specs.Replay.{counts_and}
+use Rattle.row_views.specs.Clips.{clip_test}
 use Rattle.rvv_decode.specs.declared.instruction.OpiOp.{OpiOp}
 use Rattle.rvv_decode.specs.declared.instruction.OpiOp.TheVariants.{Vrgather, Vrgatherei16}
 use Rattle.rvv_decode.specs.declared.instruction.OpmOp.{OpmOp}
@@ -36,7 +37,9 @@ use Rattle.rvv_meaning.specs.Elementwise.{is_ones}
 use Rattle.rvv_meaning.specs.Operations.{log2}
 use Rattle.vec_exec.specs.declared.recipes.Listed.{Listed}
 use Rattle.vec_exec.specs.declared.recipes.Recipe.{Recipe}
-use Rattle.vec_exec.specs.Recipes.{recipe_for, makes_bits, makes_halves, list_of, value_of, counts_of, length_of, FitsRows, Computes, TellsClips}
+use Rattle.move_exec.specs.Kinds.{kind_for}
+use Rattle.move_exec.specs.Programs.{move_program, move_cost}
+use Rattle.vec_exec.specs.Recipes.{recipe_for, makes_bits, makes_halves, list_of, value_row, written_rows, value_of, tells_clips, clips_of, counts_of, length_of, FitsRows, Computes, TellsClips}
 
 -- whether an instruction is carried out by a program: not a gather by a vector of indices, a compression, an iota, a move
 -- to a scalar register, a configuration, a load or a store
@@ -108,6 +111,23 @@ abbrev pub IsLaid : Operand → (w g : ℕ) → Type 0
 IsLaid op w g = Measured (laid_counts op w) (laid_length op w) (laid_out op w g)
 
 -- ---- the parts of a program
+
+-- where a list tells which results are clipped: the low halves of what it tells, and the test of a register; how many
+-- operations these are, and what the test costs
+abbrev pub flags_list : Listed → (wide part : ℕ) → List MicroOp
+flags_list list wide part = cond (tells_clips list) (Narrow overflow_row truth_row wide part ∷ []) []
+
+abbrev pub flags_length : Listed → ℕ
+flags_length list = cond (tells_clips list) 1 0
+
+abbrev pub test_list : Listed → (w : ℕ) → List MicroOp
+test_list list w = cond (tells_clips list) (clip_test w truth_row) []
+
+abbrev pub test_length : Listed → ℕ
+test_length list = cond (tells_clips list) 2 0
+
+abbrev pub test_counts : Listed → Counts
+test_counts list = cond (tells_clips list) (counts 1 0 0) no_counts
 
 -- the operations that put a number into the scalar's row, at a width, where there is a scalar
 abbrev pub scalar_list : VInstr → (width x : ℕ) → List MicroOp
@@ -197,14 +217,17 @@ module _ (r : Recipe) (i : VInstr) (c : Cfg) where
   mask_registers_list zero = []
   mask_registers_list (suc g) = mask_registers_list g ++ mask_register_list g
 
-  -- the lists of the halves of a register, and the row where each leaves what it computes
+  -- the lists of the halves of a register, the row where each leaves what it computes, and the row where it tells what is
+  -- clipped, where it does
   abbrev pub wide_lists : Lists
-  wide_lists = record { row = shifted_row (log2 (2 * c.vtype.sew)); body = wide_list r i c; clips = false; flag = 0 }
+  wide_lists = record { row = value_row (list_for r i) (log2 (2 * c.vtype.sew)); body = wide_list r i c; clips = tells_clips (list_for r i); flag = overflow_row }
 
   -- the operations on register g of a destination that is half as wide as its first operand: those that mark its elements,
-  -- those on its halves, and the fill
+  -- those on its halves, the test of what is clipped, the commit, and the fill
   abbrev pub half_list_of : (g : ℕ) → List MicroOp
-  half_list_of g = halves_list c.vtype.sew (halves_of r i c) wide_lists g (half_count c.vtype) ++ micros c.vtype.sew (commit c.vtype.sew halves_row (i.vd + g))
+  half_list_of g =
+      halves_list c.vtype.sew (halves_of r i c) wide_lists g (half_count c.vtype)
+      ++ (flag_test c.vtype.sew wide_lists ++ micros c.vtype.sew (commit c.vtype.sew halves_row (i.vd + g)))
 
   unfoldable pub half_register_list : (g : ℕ) → List MicroOp
   half_register_list g =
@@ -217,7 +240,7 @@ module _ (r : Recipe) (i : VInstr) (c : Cfg) where
   one_half_counts = counts_and (laid_counts (halves_of r i c).b (2 * c.vtype.sew)) (counts_of (list_for r i) c.vtype.sew c.vxrm)
 
   abbrev pub one_half_length : ℕ
-  one_half_length = laid_length (halves_of r i c).b (2 * c.vtype.sew) + (length_of (list_for r i) c.vtype.sew c.vxrm + 1)
+  one_half_length = laid_length (halves_of r i c).b (2 * c.vtype.sew) + (length_of (list_for r i) c.vtype.sew c.vxrm + (1 + flags_length (list_for r i)))
 
   -- what half h of register g costs, and the first n halves
   abbrev pub IsHalfMeasured : (g h : ℕ) → Type 0
@@ -228,10 +251,10 @@ module _ (r : Recipe) (i : VInstr) (c : Cfg) where
       Measured (counts_times n one_half_counts) (n * one_half_length) (halves_list c.vtype.sew (halves_of r i c) wide_lists g n)
 
   abbrev pub half_counts : Counts
-  half_counts = counts_and (counts_times (half_count c.vtype) one_half_counts) (counts 2 2 0)
+  half_counts = counts_and (counts_times (half_count c.vtype) one_half_counts) (counts_and (test_counts (list_for r i)) (counts 2 2 0))
 
   abbrev pub half_length : ℕ
-  half_length = half_count c.vtype * one_half_length + 4
+  half_length = half_count c.vtype * one_half_length + (test_length (list_for r i) + 4)
 
   abbrev pub half_register_length : ℕ
   half_register_length = 1 + cond (reads r i) 1 0 + cond (is_ones c.policy) 3 0 + half_length
@@ -260,14 +283,21 @@ module _ (r : Recipe) (i : VInstr) (c : Cfg) where
       cond (makes_bits r.masked) (compare_cost_of i c (counts_of (list_for r i) c.vtype.sew 0))
       (cond (makes_halves r.masked) (cost_of i c (registers_for c.vtype c.vtype.sew) half_counts) (cost_of i c (count_of r c) body_counts))
 
+-- the program of an instruction that reads whole groups or masks, and what it costs
+abbrev pub whole_program : VInstr → Cfg → List MicroOp
+whole_program i c = option_map_or (λ kind. move_program kind i c) (kind_for i.op) []
+
+abbrev pub whole_cost : VInstr → Cfg → Counts
+whole_cost i c = option_map_or (λ kind. move_cost kind c) (kind_for i.op) no_counts
+
 -- the program of an instruction, of those that are built
 unfoldable pub prog : VInstr → Cfg → (scalar : ℕ) → List MicroOp
-prog i c x = option_map_or (λ r. program_by r i c x) (recipe_for i.op) []
+prog i c x = option_map_or (λ r. program_by r i c x) (recipe_for i.op) (whole_program i c)
 
 -- The searches, updates and passes of the program of an instruction: of its scalar; for each register of the destination of
 -- the kind and, where agnostic elements become ones, of the fill; but one fill where the result is a mask.
 unfoldable pub cost : VInstr → Cfg → Counts
-cost i c = option_map_or (λ r. cost_by r i c) (recipe_for i.op) no_counts
+cost i c = option_map_or (λ r. cost_by r i c) (recipe_for i.op) (whole_cost i c)
 
 -- ---- rows
 
@@ -290,6 +320,7 @@ pub record IsPlaced (r : Recipe) (i : VInstr) (c : Cfg) (g : ℕ) : Type 0 where
 
 -- register g of a destination, and those of its halves' operands
 pub record IsHalfPlaced (r : Recipe) (i : VInstr) (c : Cfg) (g : ℕ) : Type 0 where
+  pub mode : c.vxrm ≤ 3
   pub vd : i.vd + g < 32
   pub wide : is_wide (2 * c.vtype.sew) ≡ true
   pub a : (h : ℕ) → h < half_count c.vtype → (halves_of r i c).a + (2 * g + h) < 32
@@ -310,16 +341,28 @@ pub record IsMade (r : Recipe) (i : VInstr) (c : Cfg) (g : ℕ) : Type 0 where
   pub tells : TellsClips (list_for r i) (width_of r c) c.vxrm (row_of (operands_of r i c).a g) (row_of (operands_of r i c).b g) ((operands_of r i c).addend + g) (i.vd + g)
   pub cost : Measured (body_counts r i c) (body_length r i c) (body_list r i c g)
 
--- What the list of register q of an operand leaves, of which each register has the elements of a half; and what the operations
--- on register g of the destination cost.
+-- What the list of register q of an operand leaves and tells, of which each register has the elements of a half; and what the
+-- operations on register g of the destination cost.
 abbrev pub LeavesHalf : Listed → (w mode a b : ℕ) → List MicroOp → Type 0
-LeavesHalf list w mode a b ops = LeavesLow w (shifted_row (log2 (2 * w))) shift_rows (λ n. value_of list w mode (n a) (n b) 0 false) ops
+LeavesHalf list w mode a b ops = LeavesLow w (value_row list (log2 (2 * w))) (written_rows list) (λ n. value_of list w mode (n a) (n b) 0 false) ops
 
 abbrev pub LeavesPart : Recipe → VInstr → Cfg → (g h : ℕ) → Type 0
 LeavesPart r i c g h = LeavesHalf (list_for r i) c.vtype.sew c.vxrm ((halves_of r i c).a + (2 * g + h)) (row_of (halves_of r i c).b (2 * g + h)) (wide_list r i c (2 * g + h))
 
+-- the lowest bit of each element of the flag's row tells whether its result is clipped, if the list tells clips
+abbrev pub flags_as : (tells : Bool) → (w : ℕ) → (clipped : (ℕ → ℕ) → Bool) → List MicroOp → Type 0
+flags_as false w clipped ops = Unit {0}
+flags_as true w clipped ops = LeavesFlag w overflow_row clipped ops
+
+abbrev pub FlagsHalf : Listed → (w mode a b : ℕ) → List MicroOp → Type 0
+FlagsHalf list w mode a b ops = flags_as (tells_clips list) w (λ n. clips_of list w mode (n a) (n b) 0) ops
+
+abbrev pub FlagsPart : Recipe → VInstr → Cfg → (g h : ℕ) → Type 0
+FlagsPart r i c g h = FlagsHalf (list_for r i) c.vtype.sew c.vxrm ((halves_of r i c).a + (2 * g + h)) (row_of (halves_of r i c).b (2 * g + h)) (wide_list r i c (2 * g + h))
+
 pub record IsHalfMade (r : Recipe) (i : VInstr) (c : Cfg) (g : ℕ) : Type 0 where
   pub leaves : (h : ℕ) → h < half_count c.vtype → LeavesPart r i c g h
+  pub flags : (h : ℕ) → h < half_count c.vtype → FlagsPart r i c g h
   pub cost : Measured (half_counts r i c) (half_length r i c) (half_list_of r i c g)
 
 -- The same of a list that tells the truths of register g of the operands of a mask.

@@ -1,5 +1,5 @@
 -- The recipes of operations: which lists compute them, what these lists are, and what they cost.
-use Rattle.std.specs.Prelude.{◌≡◌, ◌*◌, ℕ, Bool, true, false, List, Option, Some, None}
+use Rattle.std.specs.Prelude.{◌≡◌, ◌+◌, ◌*◌, ℕ, Bool, true, false, List, ◌++◌, Option, Some, None}
 use Rattle.cam_chain.specs.declared.counts.Counts.{Counts}
 use Rattle.gen_arith.specs.Kinds.{sum_takes_mask, sum_value, sum_ops, sum_counts, sum_length, truth_takes_mask, truth_value, truth_ops, truth_counts, truth_length, choice_value, choice_ops, choice_counts, choice_length}
 use Rattle.gen_arith.specs.declared.kinds.Sum.TheVariants.{Add, Sub, Adc, Sbc}
@@ -8,27 +8,34 @@ use Rattle.gen_arith.specs.declared.kinds.Choice.TheVariants.{Minu, Min, Maxu, M
 use Rattle.gen_div.specs.Kinds.{division_value, division_ops, division_counts, division_length}
 use Rattle.gen_div.specs.Rows.{IsRowOf}
 use Rattle.gen_div.specs.declared.kinds.Division.TheVariants.{Divu, Remu, Div, Rem}
-use Rattle.gen_fixed.specs.Kinds.{average_value, average_ops, average_counts, average_length, saturating_value, saturating_clips, saturating_ops, saturating_counts, saturating_length}
+use Rattle.gen_fixed.specs.Kinds.{average_value, average_ops, average_counts, average_length, saturating_value, saturating_clips, saturating_ops, saturating_counts, saturating_length, clip_ops, clip_counts, clip_length}
+use Rattle.gen_fixed.specs.Laws.{clip_rows}
+use Rattle.gen_fixed.specs.Lists.{clipped_row}
+use Rattle.gen_fixed.specs.Values.{vnclipu, vnclipu_clips, vnclip, vnclip_clips}
 use Rattle.gen_fixed.specs.declared.kinds.Average.TheVariants.{Avgu, Avg}
 use Rattle.gen_fixed.specs.declared.kinds.Saturating.TheVariants.{Saddu, Sadd, Ssubu, Ssub}
+use Rattle.gen_fixed.specs.declared.kinds.Clipping.{Clipping}
+use Rattle.gen_fixed.specs.declared.kinds.Clipping.TheVariants.{Clipu, Clip}
 use Rattle.gen_logic.specs.Recipes.{logic_ops, logic_counts, logic_length}
 use Rattle.gen_logic.specs.Values.{takes_mask, value_of as logic_value}
 use Rattle.gen_logic.specs.declared.kinds.Logic.TheVariants.{And, Or, Xor, Merge, First, Second}
 use Rattle.gen_mul.specs.Fractions.{smul_value, smul_clips, smul_ops, smul_counts, smul_length}
 use Rattle.gen_mul.specs.Kinds.{product_value, product_ops, product_counts, product_length}
 use Rattle.gen_mul.specs.declared.kinds.Product.TheVariants.{Mul, Mulhu, Mulhsu, Mulh, Macc, Nmsac}
-use Rattle.gen_shift.specs.Kinds.{shift_value, shift_ops, shift_counts, shift_length, raw_ops, raw_counts, raw_length, rounded_value, rounded_ops, rounded_counts, rounded_length}
+use Rattle.gen_shift.specs.Kinds.{shift_value, shift_ops, shift_counts, shift_length, raw_ops, raw_counts, raw_length, rounding_ops, rounding_counts, rounding_length, rounded_value, rounded_ops, rounded_counts, rounded_length}
+use Rattle.gen_shift.specs.Rows.{shifted_row, rounded_row, shift_rows, rounding_rows}
 use Rattle.gen_shift.specs.declared.kinds.Shift.{Shift}
 use Rattle.gen_shift.specs.declared.kinds.Shift.TheVariants.{Sll, Srl, Sra}
 use Rattle.micro_ir.specs.Kinds.{Realises, Tells}
 use Rattle.micro_ir.specs.Measures.{counts}
 use Rattle.micro_ir.specs.Pieces.{commit}
+use Rattle.micro_ir.specs.Replay.{counts_and}
 use Rattle.micro_ir.specs.Steps.{micros}
 use Rattle.micro_ir.specs.WorkRows.{IsOperandRow, result_row}
 use Rattle.micro_ir.specs.declared.op.MicroOp.{MicroOp}
 use Rattle.micro_ir.specs.declared.place.Place.{Place}
 use Rattle.row_views.specs.Clips.{ClipsWhere}
-use Rattle.rvv_decode.specs.declared.instruction.OpiOp.TheVariants.{Vadd, Vsub, Vrsub, Vadc, Vsbc, Vmadc, Vmsbc, Vand, Vor, Vxor, Vsll, Vsrl, Vsra, Vmseq, Vmsne, Vmsltu, Vmslt, Vmsleu, Vmsle, Vmsgtu, Vmsgt, Vminu, Vmin, Vmaxu, Vmax, Vmerge, VmvV, Vnsrl, Vnsra, Vsaddu, Vsadd, Vssubu, Vssub, Vsmul, Vssrl, Vssra}
+use Rattle.rvv_decode.specs.declared.instruction.OpiOp.TheVariants.{Vadd, Vsub, Vrsub, Vadc, Vsbc, Vmadc, Vmsbc, Vand, Vor, Vxor, Vsll, Vsrl, Vsra, Vmseq, Vmsne, Vmsltu, Vmslt, Vmsleu, Vmsle, Vmsgtu, Vmsgt, Vminu, Vmin, Vmaxu, Vmax, Vmerge, VmvV, Vnsrl, Vnsra, Vnclipu, Vnclip, Vsaddu, Vsadd, Vssubu, Vssub, Vsmul, Vssrl, Vssra}
 use Rattle.rvv_decode.specs.declared.instruction.OpmOp.TheVariants.{Vdivu, Vdiv, Vremu, Vrem, Vmulhu, Vmul, Vmulhsu, Vmulh, Vmadd, Vnmsub, Vmacc, Vnmsac, VzextVf2, VzextVf4, VsextVf2, VsextVf4, Vwaddu, Vwadd, Vwsubu, Vwsub, VwadduW, VwaddW, VwsubuW, VwsubW, Vwmulu, Vwmulsu, Vwmul, Vwmaccu, Vwmacc, Vwmaccus, Vwmaccsu, Vaaddu, Vaadd, Vasubu, Vasub}
 use Rattle.rvv_decode.specs.declared.instruction.VOp.{VOp}
 use Rattle.rvv_decode.specs.declared.instruction.VOp.TheVariants.{Opi, Opm}
@@ -36,7 +43,7 @@ use Rattle.frame_meaning.specs.declared.Order.{Order}
 use Rattle.frame_meaning.specs.declared.Order.TheVariants.{Straight, Reversed, Second as SecondAlone, Exchanged, Widening, WideSource, Half, Quarter}
 use Rattle.rvv_meaning.specs.Operations.{log2}
 use Rattle.vec_exec.specs.declared.recipes.Listed.{Listed}
-use Rattle.vec_exec.specs.declared.recipes.Listed.TheVariants.{Bits, Sums, Truths, Choices, Shifts, Products, Fractions, Roundings, Averages, Saturations, Divisions, Copies, Halves}
+use Rattle.vec_exec.specs.declared.recipes.Listed.TheVariants.{Bits, Sums, Truths, Choices, Shifts, Products, Fractions, Roundings, Averages, Saturations, Divisions, Copies, Halves, Clips}
 use Rattle.vec_exec.specs.declared.recipes.Recipe.{Recipe}
 use Rattle.vec_exec.specs.declared.recipes.Right.{Right}
 use Rattle.vec_exec.specs.declared.recipes.Right.TheVariants.{Zeros, Sign}
@@ -108,6 +115,8 @@ recipe_for (Opm Vmadd) = Some (ordered (Products Macc) Exchanged)
 recipe_for (Opm Vnmsub) = Some (ordered (Products Nmsac) Exchanged)
 recipe_for (Opi Vnsrl) = Some (of_unsigned (Halves Srl))
 recipe_for (Opi Vnsra) = Some (of_unsigned (Halves Sra))
+recipe_for (Opi Vnclipu) = Some (of_unsigned (Clips Clipu))
+recipe_for (Opi Vnclip) = Some (of_unsigned (Clips Clip))
 recipe_for (Opi Vsmul) = Some (of_two Fractions)
 recipe_for (Opi Vssrl) = Some (of_unsigned (Roundings Zeros))
 recipe_for (Opi Vssra) = Some (of_unsigned (Roundings Sign))
@@ -147,6 +156,11 @@ abbrev pub shift_of : Right → Shift
 shift_of Zeros = Srl
 shift_of Sign = Sra
 
+-- what comes in where a number is moved that is then clipped
+abbrev pub moved_in : Clipping → Right
+moved_in Clipu = Zeros
+moved_in Clip = Sign
+
 -- the list tells a truth of each element, and so makes the bits of a mask
 abbrev pub makes_bits : Listed → Bool
 makes_bits (Bits kind) = false
@@ -162,10 +176,12 @@ makes_bits (Roundings right) = false
 makes_bits (Divisions kind) = false
 makes_bits Copies = false
 makes_bits (Halves kind) = false
+makes_bits (Clips kind) = false
 
 -- the list computes the elements of one half of a register at a time, at twice their width
 abbrev pub makes_halves : Listed → Bool
 makes_halves (Halves kind) = true
+makes_halves (Clips kind) = true
 makes_halves _ = false
 
 -- the list takes the mask as an operand
@@ -183,6 +199,7 @@ takes_row (Roundings right) = false
 takes_row (Divisions kind) = false
 takes_row Copies = false
 takes_row (Halves kind) = false
+takes_row (Clips kind) = false
 
 -- the list takes an operand that is laid out in the row of results
 abbrev pub takes_laid : Listed → Bool
@@ -219,10 +236,21 @@ list_of (Roundings right) w mode a b d to = rounded_ops (shift_of right) w (log2
 list_of (Divisions kind) w mode a b d to = division_ops kind w (rows mode a b d to)
 list_of Copies w mode a b d to = micros w (commit w a to)
 list_of (Halves kind) w mode a b d to = raw_ops kind (2 * w) (log2 (2 * w)) (rows mode a b d to)
+list_of (Clips kind) w mode a b d to =
+    rounding_ops (shift_of (moved_in kind)) (2 * w) (log2 (2 * w)) (rows mode a b d to) ++ clip_ops kind w (rounded_row mode (log2 (2 * w)))
 
 -- the same, from the rows of a place
 abbrev pub list_at : Listed → (w : ℕ) → Place → List MicroOp
 list_at list w at = list_of list w at.mode at.a at.b at.addend at.to
+
+-- The row where a list leaves what it computes that works at twice the width, 2^l bits, and the rows that it writes.
+abbrev pub value_row : Listed → (l : ℕ) → ℕ
+value_row (Clips kind) l = clipped_row
+value_row _ l = shifted_row l
+
+abbrev pub written_rows : Listed → List ℕ
+written_rows (Clips kind) = rounding_rows ++ clip_rows
+written_rows _ = shift_rows
 
 -- its value, from the rounding mode, the numbers of its operands and the mask bit
 abbrev pub value_of : Listed → (w mode a b d : ℕ) → Bool → ℕ
@@ -239,6 +267,8 @@ value_of (Roundings right) w mode a b d m = rounded_value (shift_of right) mode 
 value_of (Divisions kind) w mode a b d m = division_value kind w a b
 value_of Copies w mode a b d m = a
 value_of (Halves kind) w mode a b d m = shift_value kind (2 * w) (log2 (2 * w)) a b
+value_of (Clips Clipu) w mode a b d m = vnclipu w mode a b
+value_of (Clips Clip) w mode a b d m = vnclip w mode a b
 
 -- the truth that it tells
 abbrev pub truth_of : Listed → (w a b : ℕ) → Bool → Bool
@@ -260,11 +290,14 @@ tells_clips (Roundings right) = false
 tells_clips (Divisions kind) = false
 tells_clips Copies = false
 tells_clips (Halves kind) = false
+tells_clips (Clips kind) = true
 
 -- whether a result is clipped
 abbrev pub clips_of : Listed → (w mode a b d : ℕ) → Bool
 clips_of Fractions w mode a b d = smul_clips mode w a b
 clips_of (Saturations kind) w mode a b d = saturating_clips kind w mode a b
+clips_of (Clips Clipu) w mode a b d = vnclipu_clips w mode a b
+clips_of (Clips Clip) w mode a b d = vnclip_clips w mode a b
 clips_of _ w mode a b d = false
 
 -- its searches, updates and passes
@@ -282,6 +315,7 @@ counts_of (Roundings right) w mode = rounded_counts (shift_of right) mode w (log
 counts_of (Divisions kind) w mode = division_counts kind w
 counts_of Copies w mode = counts 2 2 0
 counts_of (Halves kind) w mode = raw_counts kind (2 * w) (log2 (2 * w))
+counts_of (Clips kind) w mode = counts_and (rounding_counts (shift_of (moved_in kind)) mode (2 * w) (log2 (2 * w))) (clip_counts kind w)
 
 -- the number of its operations
 unfoldable pub length_of : Listed → (w mode : ℕ) → ℕ
@@ -298,6 +332,7 @@ length_of (Roundings right) w mode = rounded_length (shift_of right) mode w (log
 length_of (Divisions kind) w mode = division_length kind w
 length_of Copies w mode = 4
 length_of (Halves kind) w mode = raw_length kind (2 * w) (log2 (2 * w))
+length_of (Clips kind) w mode = rounding_length (shift_of (moved_in kind)) mode (2 * w) (log2 (2 * w)) + clip_length kind w
 
 -- ---- what a list computes
 

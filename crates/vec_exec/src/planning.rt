@@ -11,7 +11,8 @@ ghost use Rattle.frame_meaning.specs.Realising.{RealisesInstruction};
 ghost use Rattle.frame_meaning.specs.Shapes.{has_scalar};
 ghost use Rattle.vec_exec.specs.Recipes.{recipe_for};
 ghost use Rattle.vec_exec.specs.Recipes as lists;
-ghost use Rattle.vec_exec.specs.Programs.{prog, program_by, is_engine, cost, cost_by, scalar_list, width_of};
+ghost use Rattle.move_exec.specs.Kinds.{kind_for};
+ghost use Rattle.vec_exec.specs.Programs.{prog, whole_program, whole_cost, program_by, is_engine, cost, cost_by, scalar_list, width_of};
 
 use crate::halves::emit_half_registers;
 use crate::operands::{EIGHTHS, at_rows, half_scalar_number, scalar_number, width};
@@ -58,7 +59,13 @@ fn registers(cfg: &Cfg, width: u8) -> u8
 const fn is_whole(op: VOp) -> bool
     ensures { result ≡ is_some (whole_for op) }
 {
-    matches!(op, VOp::Opm(OpmOp::VmvXS))
+    match op {
+        VOp::Opm(OpmOp::VmvXS | OpmOp::Vid) => true,
+        VOp::Opm(OpmOp::Vmand | OpmOp::Vmnand | OpmOp::Vmandn) => true,
+        VOp::Opm(OpmOp::Vmor | OpmOp::Vmnor | OpmOp::Vmorn) => true,
+        VOp::Opm(OpmOp::Vmxor | OpmOp::Vmxnor) => true,
+        _ => false,
+    }
 }
 
 // Whether an instruction is built that computes from the vector registers.
@@ -277,6 +284,47 @@ fn emit_program(recipe: Recipe, i: &VInstr, cfg: &Cfg, scalar: u32, buf: &mut Mi
     }
 }
 
+// The program of an instruction that reads whole groups or masks.
+fn emit_whole(i: &VInstr, cfg: &Cfg, buf: &mut MicroBuf)
+    requires kind { is_some (kind_for i.now.op) ≡ true }
+    requires fields { IsInRange i.now }
+    requires legal { is_legal i.now cfg.now.vtype cfg.now.vstart ≡ true }
+    requires valid { IsTrue (is_valid cfg.now) }
+    requires empty { buf.old.ops ≡ [] }
+    requires room { buf.old.spare ≡ 262144 }
+    ensures program { buf.new.ops ≡ whole_program i.now cfg.now }
+    ensures realises { (x : ℕ) → RealisesInstruction i.now cfg.now x buf.new.ops }
+    ensures cost { tally buf.new.ops ≡ whole_cost i.now cfg.now }
+    ensures range { AllInRange (cfg.now.vlen / 32) buf.new.ops }
+    ensures spare { buf.new.spare + length buf.new.ops ≡ buf.old.spare }
+{
+    match move_exec::kind_of(i.op) {
+        Some(kind) => move_exec::plan(kind, i, cfg, buf),
+        None => unreachable!(),
+    }
+}
+
+// The program of an instruction, by what its operation is.
+fn emit_by_operation(i: &VInstr, cfg: &Cfg, scalar: u32, buf: &mut MicroBuf)
+    requires built { is_computed i.now.op ≡ true }
+    requires engine { is_engine i.now ≡ true }
+    requires fields { IsInRange i.now }
+    requires legal { is_legal i.now cfg.now.vtype cfg.now.vstart ≡ true }
+    requires valid { IsTrue (is_valid cfg.now) }
+    requires empty { buf.old.ops ≡ [] }
+    requires room { buf.old.spare ≡ 262144 }
+    ensures program { buf.new.ops ≡ prog i.now cfg.now scalar }
+    ensures realises { RealisesInstruction i.now cfg.now scalar buf.new.ops }
+    ensures cost { tally buf.new.ops ≡ cost i.now cfg.now }
+    ensures range { AllInRange (cfg.now.vlen / 32) buf.new.ops }
+    ensures spare { buf.new.spare + length buf.new.ops ≡ buf.old.spare }
+{
+    match recipe_of(i.op) {
+        Some(recipe) => emit_program(recipe, i, cfg, scalar, buf),
+        None => emit_whole(i, cfg, buf),
+    }
+}
+
 /// Writes the program of an instruction into an empty buffer with room for 262,144 operations: its scalar into a row,
 /// where it has one; for each register of its groups, in rising order, its active elements, their mask bits, where the
 /// mask is an operand, and the list of its kind, with what lays its operands out where these are narrower; and what fills the agnostic elements, where these become ones. `scalar` is
@@ -299,8 +347,5 @@ pub fn plan(i: &VInstr, cfg: &Cfg, scalar: u32, buf: &mut MicroBuf)
     ensures passes { (tally buf.new.ops).passes ≤ 8126464 }
     ensures spare { buf.new.spare + length buf.new.ops ≡ buf.old.spare }
 {
-    match recipe_of(i.op) {
-        Some(recipe) => emit_program(recipe, i, cfg, scalar, buf),
-        None => unreachable!(),
-    }
+    emit_by_operation(i, cfg, scalar, buf);
 }

@@ -13,7 +13,7 @@ use bit_laws::Width;
 use frame_meaning::{Order, Signs};
 use gen_arith::{Choice, Sum, Truth, arith_length_law, emit_choice, emit_sum, emit_truth};
 use gen_div::{Division, division_length_law, emit_division};
-use gen_fixed::{Average, Saturating, emit_average, emit_saturating, fixed_length_law};
+use gen_fixed::{Average, Clipping, Saturating, emit_average, emit_saturating, fixed_length_law};
 use gen_logic::{Logic, emit_logic, logic_length_law};
 use gen_mul::{Product, emit_product, emit_smul, product_length_law};
 use gen_shift::{Shift, emit_rounded, emit_shift, shift_length_law};
@@ -27,8 +27,9 @@ pub(crate) enum Right {
     Sign,
 }
 
-/// A list: a generator's table, and a kind of it, of averages with whether they are of a difference; a product of fractions; a shift to the right that rounds; a copy of what is laid out; or a shift at twice the width of the elements,
-/// which computes one half of a register at a time.
+/// A list: a generator's table, and a kind of it, of averages with whether they are of a difference; a product of fractions;
+/// a shift to the right that rounds; a copy of what is laid out; or, at twice the width of the elements, a shift, or one that
+/// rounds and what clips its results, which compute one half of a register at a time.
 #[derive(Clone, Copy, PartialEq, Eq)]
 pub(crate) enum Listed {
     Bits(Logic),
@@ -44,6 +45,7 @@ pub(crate) enum Listed {
     Divisions(Division),
     Copies,
     Halves(Shift),
+    Clips(Clipping),
 }
 
 /// How an operation is computed: the list where the mask is no operand, and the one where it is; whether the mask is one
@@ -199,6 +201,8 @@ fn opi_recipe(op: OpiOp) -> Option<Recipe>
         OpiOp::VmvV => ordered(Listed::Bits(Logic::Second), Order::Second),
         OpiOp::Vnsrl => of_unsigned(Listed::Halves(Shift::Srl)),
         OpiOp::Vnsra => of_unsigned(Listed::Halves(Shift::Sra)),
+        OpiOp::Vnclipu => of_unsigned(Listed::Clips(Clipping::Clipu)),
+        OpiOp::Vnclip => of_unsigned(Listed::Clips(Clipping::Clip)),
         OpiOp::Vsaddu => of_two(Listed::Saturations(Saturating::Saddu)),
         OpiOp::Vsadd => of_two(Listed::Saturations(Saturating::Sadd)),
         OpiOp::Vssubu => of_two(Listed::Saturations(Saturating::Ssubu)),
@@ -268,11 +272,31 @@ pub(crate) fn makes_bits(list: Listed) -> bool
 pub(crate) fn makes_halves(list: Listed) -> bool
     ensures { result ≡ lists.makes_halves list }
 {
-    matches!(list, Listed::Halves(_))
+    matches!(list, Listed::Halves(_) | Listed::Clips(_))
 }
 
-// What moves a number to the right.
-fn shift_of(right: Right) -> Shift
+/// Whether the list tells which of its results are clipped.
+pub(crate) fn tells_clips(list: Listed) -> bool
+    ensures { result ≡ lists.tells_clips list }
+{
+    matches!(
+        list,
+        Listed::Fractions | Listed::Saturations(_) | Listed::Clips(_)
+    )
+}
+
+/// What comes in where a number is moved that is then clipped.
+pub(crate) const fn moved_in(kind: Clipping) -> Right
+    ensures { result ≡ lists.moved_in kind }
+{
+    match kind {
+        Clipping::Clipu => Right::Zeros,
+        Clipping::Clip => Right::Sign,
+    }
+}
+
+/// What moves a number to the right.
+pub(crate) fn shift_of(right: Right) -> Shift
     ensures value { result ≡ lists.shift_of right }
     ensures right { goes_up result ≡ false }
 {
@@ -335,6 +359,6 @@ pub(crate) fn emit_list<W: Width>(list: Listed, at: &Place, buf: &mut MicroBuf)
         Listed::Products(kind) => emit_product::<W>(buf, at, kind),
         Listed::Divisions(kind) => emit_division::<W>(buf, at, kind),
         Listed::Copies => emit_commit(buf, at.a, at.to),
-        Listed::Halves(_) => unreachable!(),
+        Listed::Halves(_) | Listed::Clips(_) => unreachable!(),
     }
 }

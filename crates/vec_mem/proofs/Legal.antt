@@ -20,7 +20,7 @@ use Rattle.vtype_cfg.proofs.Lengths.{vlen_from}
 use Rattle.vtype_cfg.proofs.Supported.{at_supported, vlen_bounded}
 use Rattle.legal_groups.specs.Facts.{IsElementWidth, registers_for, SparesMask, FieldGroups, IndexBeside, IndexRoom, WholeRoom, MaskRoom}
 use Rattle.legal_groups.proofs.Accesses.{legal_access_law}
-use Rattle.legal_groups.proofs.Laws.{in_setting}
+use Rattle.legal_groups.proofs.Rules.{in_setting}
 use Rattle.legal_groups.proofs.Widths.{in_force}
 use Rattle.rvv_meaning.specs.Elementwise.{size_of}
 use Rattle.rvv_meaning.specs.VectorAccesses.{of_elements, of_registers, access_of, shape_of, trims_of, is_store}

@@ -16,7 +16,7 @@ returns-clause-realised g c =
     let op = c.args.op.now in
     let to = c.args.at.now.to in
     let all : MovesAll op w to (move_ops w op to) = moves-all op w to (width-some w g.met.W.Width.least) (width-lanes w g.met.W.Width.divides) c.requires.to (slide-moves w op c.requires.slides) in
-    realises-move op w to (move_ops w op to) all
+    realises-move op w to (move_ops w op to) (width-some w g.met.W.Width.least) all
 
 pub returns-clause-measured : goal.returns-clause-measured
 returns-clause-measured g c =

@@ -1,11 +1,13 @@
-use Rattle.std.proofs.Common.{◌≡◌, ◌+◌, ◌<◌, [], ◌∷◌, ◌++◌, ◌∙◌, append_assoc, arith}
+use Rattle.std.proofs.Common.{◌≡◌, ◌+◌, ◌*◌, ◌/◌, ◌%◌, ◌<◌, [], ◌∷◌, ◌++◌, ◌∙◌, append_assoc, arith}
+use Rattle.std.proofs.lemmas.Nat.{div-add-mod'}
 use Rattle.micro_ir.specs.declared.op.MicroOp.TheVariants.{SetNum}
 use Rattle.row_counts.specs.Lists.{first_element}
 use Rattle.row_orders.specs.Kinds.{start_of, order_list}
 use Rattle.row_orders.specs.Lists.{sources, begin_rows, order_bits}
 use Rattle.row_orders.proofs.Costs.{order-spends}
-use Rattle.row_counts.proofs.Widths.{width-is, width-most}
+use Rattle.row_orders.proofs.Spanned.{order-folds}
 use Rattle.row_orders.proofs.Written.{length-of}
+use Rattle.row_counts.proofs.Widths.{width-is, width-most}
 use Rattle.row_orders.proofs.orders.emit_order.Goals as goal
 
 pub emit_order_bits-requires-clause-room : goal.emit_order_bits-requires-clause-room
@@ -43,3 +45,12 @@ returns-clause-cost g c =
     let met = g.met.W.Width in
     let some : 0 < w = let h = met.least in omega arith in
     order-spends c.args.kind w c.args.at.now c.args.span.now (width-is w g.W.Width.LOG met.power met.divides met.least) some (width-most w met.divides) c.requires.span.few c.requires.to
+
+pub returns-clause-folds : goal.returns-clause-folds
+returns-clause-folds g c =
+    let w = g.W.Width.BITS in
+    let met = g.met.W.Width in
+    let some : 0 < w = let h = met.least in omega arith in
+    let rest : 32 / w * w + 32 % w ≡ 32 = div-add-mod' 32 w in
+    let lanes : 32 / w * w ≡ 32 = omega (arith, rest, met.divides) in
+    order-folds c.args.kind w c.args.at.now.b c.args.span.now some lanes c.requires.b

@@ -1,6 +1,6 @@
 use Rattle.std.proofs.Common.{◌≡◌, ℕ, ◌≤◌, ◌+◌, ◌*◌, sym, ◌∙◌, append-nil, append_assoc, arith}
 use Rattle.std.proofs.lemmas.Nat.{mul-le}
-use Rattle.vec_exec.specs.Programs.{LeavesPart, one_half_counts, one_half_length}
+use Rattle.vec_exec.specs.Programs.{LeavesPart, FlagsPart, one_half_counts, one_half_length}
 use Rattle.vec_exec.proofs.Written.{half-none, half-more, halves-none, halves-more, measured-none, measured-append, measured-same, one-more}
 use Rattle.vec_exec.proofs.halves.emit_halves.Goals as goal
 
@@ -13,6 +13,7 @@ loop-half-init g c =
       ops = rw none (sym (append-nil _));
       spare = omega arith;
       leaves = λ h inside. absurd (omega (arith, inside));
+      flags = λ h inside. absurd (omega (arith, inside));
       cost = rw none (measured-same _ _ _ _ _ (halves-none counts) zero_long measured-none);
     }
 
@@ -34,5 +35,6 @@ loop-half-preserved g c =
       ops = c.emit_half.ensures.ops ∙ rw (c.loop-half.invariant.ops, more) (simp append_assoc);
       spare = omega (arith, c.emit_half.ensures.spare, c.loop-half.invariant.spare);
       leaves = one-more (LeavesPart c.args.recipe c.args.i.now c.args.cfg.now c.args.register) c.loop-half.half c.loop-half.invariant.leaves c.emit_half.ensures.leaves;
+      flags = one-more (FlagsPart c.args.recipe c.args.i.now c.args.cfg.now c.args.register) c.loop-half.half c.loop-half.invariant.flags c.emit_half.ensures.flags;
       cost = rw more (measured-same _ _ _ _ _ (halves-more c.loop-half.half counts) longer (measured-append _ _ _ _ _ _ c.loop-half.invariant.cost c.emit_half.ensures.cost));
     }

@@ -2,7 +2,7 @@ use Rattle.std.proofs.Common.{ℕ, ◌≤◌, ◌+◌, ◌*◌, refl, arith}
 use Rattle.std.proofs.lemmas.Nat.{mul-le}
 use Rattle.rvv_meaning.specs.Operations.{log2}
 use Rattle.vec_exec.specs.declared.recipes.Listed.{Listed}
-use Rattle.vec_exec.specs.declared.recipes.Listed.TheVariants.{Bits, Sums, Truths, Choices, Shifts, Products, Fractions, Roundings, Averages, Saturations, Divisions, Copies, Halves}
+use Rattle.vec_exec.specs.declared.recipes.Listed.TheVariants.{Bits, Sums, Truths, Choices, Shifts, Products, Fractions, Roundings, Averages, Saturations, Divisions, Copies, Halves, Clips}
 use Rattle.vec_exec.specs.Recipes.{shift_of, length_of}
 use Rattle.vec_exec.proofs.Widths.{log2-small}
 use Rattle.vec_exec.proofs.Written.{mode-few, smul-few, half-list-few}
@@ -24,7 +24,7 @@ returns c = few
     few (Roundings right) w mode most =
         let each : 3 * w + 15 ≤ 111 = omega arith in
         let stages : log2 w * (3 * w + 15) ≤ 5 * 111 = mul-le (log2 w) (3 * w + 15) 5 111 (log2-small w) each in
-        omega (arith, stages, c.shift_length_law.ensures (shift_of right) w (log2 w), mode-few mode w (log2 w) most (log2-small w))
+        omega (arith, stages, c.shift_length_law.ensures (shift_of right) w (log2 w), mode-few mode w (log2 w) (omega arith) (log2-small w))
     few Fractions w mode most = smul-few mode w most
     few (Averages kind sub) w mode most = omega (arith, c.fixed_length_law.ensures.averages mode w)
     few (Saturations kind) w mode most = omega (arith, c.fixed_length_law.ensures.sums kind w)
@@ -38,3 +38,4 @@ returns c = few
         omega (arith, rounds, c.division_length_law.ensures kind w)
     few Copies w mode most = omega arith
     few (Halves kind) w mode most = omega (arith, half-list-few (Halves kind) w mode refl most)
+    few (Clips kind) w mode most = omega (arith, half-list-few (Clips kind) w mode refl most)

@@ -5,7 +5,7 @@ use Rattle.report_texts.specs.Lines.{refused_line}
 use Rattle.cape_top.specs.declared.ending.Status.TheVariants.{Done, Refused}
 use Rattle.cape_io.specs.Views.{devices, views}
 use Rattle.cape_top.proofs.TopLemmas.{checked_if, refused_if, run_ends, run_reads, writes_err, writes_out}
-use Rattle.cape_top.proofs.top.do_command.Goals as goal
+use Rattle.cape_top.proofs.images.do_on_image.Goals as goal
 
 pub returns-in-Err-Refused-clause-ends : goal.returns-in-Err-Refused-clause-ends
 returns-in-Err-Refused-clause-ends g c =

@@ -1,0 +1,7 @@
+-- The programs of the instructions that read whole groups or whole masks and write elements.
+pub mod Bodies
+pub mod Frames
+pub mod Kinds
+pub mod Costs
+pub mod Programs
+pub mod Laws
