@@ -1,8 +1,8 @@
 -- The lists of reductions bring their folds into the scalar row.
-use Rattle.std.proofs.Common.{◌≡◌, ◌≢◌, ℕ, ◌*◌, ◌<◌, ◌≤◌, true, arith, ⊎_elim}
+use Rattle.std.proofs.Common.{◌≡◌, ◌≢◌, ℕ, ◌*◌, ◌<◌, ◌≤◌, true, arith}
 use Rattle.steer_net.specs.Network.{is_width}
 use Rattle.steer_net.proofs.Parts.{width-fills}
-use Rattle.micro_ir.specs.WorkRows.{active_row, IsOperandRow}
+use Rattle.micro_ir.specs.WorkRows.{active_row}
 use Rattle.row_counts.specs.declared.span.Span.{Span}
 use Rattle.row_counts.proofs.Folding.{Widths, folds-low, folds-bits}
 use Rattle.gen_reduce.specs.declared.kinds.Reduction.{Reduction}
@@ -38,7 +38,3 @@ reduction-folds kind w b span width small wide most apart =
     let n = width-fills w width in
     let d = width-fills (width_of kind w) wide in
     by-kind kind w b span small most (record { some = n.0; lanes = n.1; wide_some = d.0; wide_lanes = d.1; apart = apart })
-
--- an operand does not stand in the row of active elements
-pub operand-apart : (b : ℕ) → IsOperandRow b → b ≢ active_row
-operand-apart b is = ⊎_elim (λ (l : b < 32). let g : b ≢ 32 = omega arith in g) (λ q. ⊎_elim (λ (e : b ≡ 33). let g : b ≢ 32 = omega arith in g) (λ q. ⊎_elim (λ (e : b ≡ 34). let g : b ≢ 32 = omega arith in g) (λ q. ⊎_elim (λ (e : b ≡ 55). let g : b ≢ 32 = omega arith in g) (λ (e : b ≡ 56). let g : b ≢ 32 = omega arith in g) q) q) q) is

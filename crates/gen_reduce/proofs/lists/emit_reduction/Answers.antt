@@ -1,6 +1,7 @@
 use Rattle.row_counts.proofs.Widths.{width-is}
+use Rattle.row_orders.proofs.Keys.{operand-stays}
 use Rattle.gen_reduce.proofs.Costs.{width-of, width-few, reduction-spends}
-use Rattle.gen_reduce.proofs.Folding.{reduction-folds, operand-apart}
+use Rattle.gen_reduce.proofs.Folding.{reduction-folds}
 use Rattle.gen_reduce.proofs.lists.emit_reduction.Goals as goal
 
 pub returns-clause-cost : goal.returns-clause-cost
@@ -19,4 +20,4 @@ returns-clause-folds g c =
     let met = g.met.W.Width in
     let few = width-few c.args.kind w met.divides c.requires.wide in
     reduction-folds c.args.kind w c.args.at.now.b c.args.span.now (width-is w l met.power met.divides met.least) few.0
-    (width-of c.args.kind w l met.power met.divides met.least c.requires.wide) few.1 (operand-apart c.args.at.now.b c.requires.b)
+    (width-of c.args.kind w l met.power met.divides met.least c.requires.wide) few.1 (operand-stays c.args.at.now.b c.requires.b).active
