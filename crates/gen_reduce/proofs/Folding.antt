@@ -1,5 +1,5 @@
 -- The lists of reductions bring their folds into the scalar row.
-use Rattle.std.proofs.Common.{◌≡◌, ◌≢◌, ℕ, ◌*◌, ◌<◌, ◌≤◌, true, arith}
+use Rattle.std.proofs.Common.{◌≡◌, ◌≢◌, ℕ, ◌*◌, ◌≤◌, true, arith}
 use Rattle.steer_net.specs.Network.{is_width}
 use Rattle.steer_net.proofs.Parts.{width-fills}
 use Rattle.micro_ir.specs.WorkRows.{active_row}
