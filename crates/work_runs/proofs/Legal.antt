@@ -1,13 +1,13 @@
 -- The vector instructions of a workload are legal under its settings.
-use Rattle.std.proofs.Common.{◌≡◌, ℕ, ◌+◌, ◌%◌, ◌<◌, Bool, true, false, not, ◌||◌, List, [], ◌∷◌, Option, Some, None, refl, sym, ◌∙◌, ap, arith}
+use Rattle.std.proofs.Common.{◌≡◌, ℕ, ◌+◌, ◌%◌, ◌<◌, true, not, refl, ◌∙◌, ap, arith}
 use Rattle.std.specs.Prelude.{nat_le, nat_eq}
-use Rattle.std.proofs.lemmas.Bool.{and_from, or_right, eq-eqb, le-leb}
+use Rattle.std.proofs.lemmas.Bool.{or_right, eq-eqb, le-leb}
 use Rattle.rvv_decode.specs.declared.instruction.VInstr.{VInstr}
 use Rattle.rvv_decode.specs.declared.instruction.Form.{Form}
 use Rattle.rvv_decode.specs.declared.instruction.Form.TheVariants.{V, X, I}
 use Rattle.vtype_cfg.specs.declared.vtype.Vtype.{Vtype}
-use Rattle.vtype_cfg.specs.Groups.{Operand, register_at, registers}
-use Rattle.vtype_cfg.specs.Classes.{Class, plain, index, configuration, by_width, nothing, group, class_of, in_form, operand_at, row_of, destination_of, sources_of, overlap_of, may_write_mask, starts_at_zero, needs_no_setting}
+use Rattle.vtype_cfg.specs.Groups.{register_at, registers}
+use Rattle.vtype_cfg.specs.Classes.{plain, index, configuration, by_width, nothing, group, class_of, in_form, operand_at, row_of, destination_of, sources_of, overlap_of, starts_at_zero, needs_no_setting}
 use Rattle.vtype_cfg.specs.Legality.{if_there, has_setting, has_legal_eew, has_legal_emul, is_aligned, fits_registers, is_placed, may_overlap_by_width, overlaps_legally, spares_mask, may_start_at, are_placed, writes_legally, obeys_rules, is_legal}
 use Rattle.work_runs.specs.Stages.{Width, bytes, halves, words, bits, type_of}
 

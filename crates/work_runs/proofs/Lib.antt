@@ -4,3 +4,7 @@ pub mod Meanings
 pub mod Legal
 pub mod Ready
 pub mod Words
+pub mod Fetching
+pub mod Flows
+pub mod Running
+pub mod Workloads

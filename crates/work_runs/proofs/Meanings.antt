@@ -1,20 +1,20 @@
 -- What the vector words of a workload mean, by the row of the table that each fits.
-use Rattle.std.proofs.Common.{◌≡◌, ℕ, zero, suc, ◌+◌, ◌*◌, ◌-◌, ◌/◌, ◌%◌, ◌^◌, ◌<◌, Bool, true, false, List, [], ◌∷◌, Option, Some, None, refl, sym, ◌∙◌, ap, subst, arith, length}
+use Rattle.std.proofs.Common.{◌≡◌, ℕ, zero, suc, ◌+◌, ◌*◌, ◌%◌, ◌^◌, ◌<◌, true, List, [], ◌∷◌, Some, None, refl, ◌∙◌, ap, subst, arith, length}
 use Rattle.std.specs.Prelude.{⊤, bit_and, bit_or, find, slice_index}
 use Rattle.std.proofs.lemmas.Bool.{eq-eqb}
 use Rattle.std.proofs.lemmas.Nat.Bits.{and_high}
 use Rattle.word_rows.specs.Field.{field}
-use Rattle.word_rows.specs.Rows.{Row, look_up}
+use Rattle.word_rows.specs.Rows.{Row}
 use Rattle.word_rows.proofs.Apart.{all_apart}
 use Rattle.rv32_decode.specs.Rows.{rows as scalar_rows, means as means_scalar, operations as scalar_operations, encoding_of, instruction_of as scalar_of}
 use Rattle.word_rows.specs.Tree.{mask_of}
 use Rattle.word_rows.proofs.Walk.{and_or}
-use Rattle.vtype_cfg.specs.Classes.{Class, plain, index, reduction, scalar_out, class_of, opi_class, opm_class}
+use Rattle.vtype_cfg.specs.Classes.{Class, plain, index, class_of, opi_class, opm_class}
 use Rattle.rvv_meaning.specs.Vectors.{is_computed}
 use Rattle.rvv_decode.specs.declared.instruction.VInstr.{VInstr}
 use Rattle.rvv_decode.specs.declared.instruction.VOp.{VOp}
 use Rattle.rvv_decode.specs.declared.instruction.Form.{Form}
-use Rattle.rvv_decode.specs.Layouts.{Kind, Layout, arithmetic, instruction, instruction_of}
+use Rattle.rvv_decode.specs.Layouts.{Kind, arithmetic, instruction, instruction_of}
 use Rattle.rvv_decode.specs.Rows.{rows, means}
 use Rattle.rvv_decode.specs.OpiRows.{opi_rows}
 use Rattle.rvv_decode.specs.OpmRows.{opm_rows}

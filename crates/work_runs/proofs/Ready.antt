@@ -1,33 +1,26 @@
 -- What a word leaves that goes on to the next one: of a scalar instruction that writes a register, of a configuration, and of
 -- a vector instruction that computes.
-use Rattle.std.proofs.Common.{◌≡◌, ◌≢◌, ℕ, ◌+◌, ◌*◌, ◌%◌, ◌^◌, ◌<◌, Bool, true, false, cond, List, [], ◌∷◌, length, Option, Some, None, refl, sym, ◌∙◌, ap, subst, arith}
+use Rattle.std.proofs.Common.{◌≡◌, ℕ, ◌+◌, ◌%◌, ◌^◌, true, List, [], length, Option, Some, None, refl, sym, ◌∙◌, ap, subst}
 use Rattle.std.specs.Prelude.{slice_index, slice_set, ◌==◌}
-use Rattle.std.specs.Option.{option_map, option_map_or}
-use Rattle.std.proofs.lemmas.Bool.{cond_both, eqb-false, ne_eqb}
-use Rattle.std.proofs.lemmas.List.{length-set, get_or-set_same, get_or-set_other}
+use Rattle.std.specs.Option.{option_map_or}
+use Rattle.std.proofs.lemmas.Bool.{cond_both, eqb-false}
+use Rattle.std.proofs.lemmas.List.{length-set, get_or-set_other}
 use Rattle.rvv_decode.specs.declared.instruction.VInstr.{VInstr}
 use Rattle.rvv_decode.specs.declared.instruction.VOp.{VOp}
 use Rattle.rvv_decode.specs.declared.instruction.VOp.TheVariants.{Opi, Opm, Config, Memory as Moves}
-use Rattle.rv32_decode.specs.declared.instruction.Instr.{Instr}
 use Rattle.vtype_cfg.specs.Settings.{vtype_of, settings, setting_of_codes}
 use Rattle.vtype_cfg.specs.Legality.{is_legal}
 use Rattle.rv32_decode.specs.Rows.{means as means_scalar}
 use Rattle.rvv_decode.specs.Rows.{means}
-use Rattle.rvv_meaning.specs.declared.Flow.{Flow}
 use Rattle.rvv_meaning.specs.declared.Flow.TheVariants.{Next as GoesOn}
-use Rattle.rvv_meaning.specs.declared.Call.{Call}
-use Rattle.rvv_meaning.specs.declared.Meaning.TheVariants.{Scalar, Vector}
+use Rattle.rvv_meaning.specs.declared.Meaning.TheVariants.{Vector}
 use Rattle.rvv_meaning.specs.declared.Mode.TheVariants.{Running}
-use Rattle.rvv_meaning.specs.declared.Next.{Next}
 use Rattle.rvv_meaning.specs.declared.Next.TheVariants.{Perform}
-use Rattle.rvv_meaning.specs.declared.Csrs.{Csrs}
-use Rattle.rvv_meaning.specs.Operations.{Operation, operation_for}
 use Rattle.rvv_meaning.specs.Scalar.Registers.{written}
-use Rattle.rvv_meaning.specs.Scalar.{Effect}
-use Rattle.rvv_meaning.specs.States.{Core, advanced, after_flow, call_by, call_of, carried_out, cfg_at, effect_at, executed_scalar, executed_vector, next_for, next_scalar, next_vector, vector_effect_at, with_effect, with_vector_effect}
-use Rattle.rvv_meaning.specs.Vectors.{VectorEffect, effect_by, elements_effect, is_computed, left_by, left_effect, left_of, no_effect, number_effect, scalar_operand, vector_effect}
+use Rattle.rvv_meaning.specs.States.{Core, advanced, after_flow, call_of, carried_out, cfg_at, executed_vector, next_for, vector_effect_at, with_vector_effect}
+use Rattle.rvv_meaning.specs.Vectors.{VectorEffect, effect_by, elements_effect, is_computed, left_by, left_effect, no_effect, number_effect, scalar_operand, vector_effect}
 use Rattle.rvv_meaning.specs.Whole.{Left, elements, number}
-use Rattle.work_runs.specs.Stages.{Stage, opening, set, leaving, IsAt, Width, bytes, halves, words, name_of, type_of}
+use Rattle.work_runs.specs.Stages.{Stage, set, IsAt, Width, bytes, halves, words, name_of, type_of}
 
 -- there are 32 registers, and the first is zero
 pub record Registers (regs : List ℕ) : Type 0 where
@@ -129,9 +122,9 @@ works w word v c ready =
     let legal : is_legal v.i (vtype_of c.csrs.vtype) c.csrs.vstart ≡ true = rw (ready.stands, ready.start, named w) v.legal in
     let e = calm v.i c ready.start ready.registers v.computed in
     vector-continues c word v.i v.scalar v.vector legal (set w) (
-      subst (GoesTo (set w) c) (sym (executed-vector v.i c e.flow)) record {
-        ready = record { running = ready.running; start = e.start; stands = e.vtype ∙ ready.stands; registers = e.registers };
-        pc = refl;
-        mem = e.mem;
-        retired = ap (λ n. n + 1) e.retired;
-      })
+    subst (GoesTo (set w) c) (sym (executed-vector v.i c e.flow)) record {
+      ready = record { running = ready.running; start = e.start; stands = e.vtype ∙ ready.stands; registers = e.registers };
+      pc = refl;
+      mem = e.mem;
+      retired = ap (λ n. n + 1) e.retired;
+    })

@@ -1,12 +1,11 @@
 -- The words of a workload, kind by kind: each is carried out, and goes on to the next one.
-use Rattle.std.proofs.Common.{◌≡◌, ℕ, suc, ◌+◌, ◌-◌, ◌*◌, ◌/◌, ◌%◌, ◌^◌, ◌<◌, Bool, true, false, List, [], ◌∷◌, length, Option, Some, None, refl, sym, ◌∙◌, ap, subst, arith}
-use Rattle.std.specs.Prelude.{bit_and, slice_index, slice_set, find}
-use Rattle.std.proofs.lemmas.Bool.{eq-eqb}
+use Rattle.std.proofs.Common.{◌≡◌, ℕ, zero, suc, ◌+◌, ◌*◌, ◌%◌, ◌^◌, ◌<◌, true, false, [], Some, None, refl, sym, ◌∙◌, ap, subst, arith}
+use Rattle.std.specs.Prelude.{bit_and, slice_index}
 use Rattle.std.proofs.lemmas.List.{get_or-set_same}
 use Rattle.word_rows.specs.Field.{field}
 use Rattle.rv32_decode.specs.Formats.{instruction}
 use Rattle.rv32_decode.specs.Rows.{rows as scalar_rows, means as means_scalar, operations as scalar_operations, encoding_of}
-use Rattle.rv32_decode.specs.declared.formats.Format.TheVariants.{I, U}
+use Rattle.rv32_decode.specs.declared.formats.Format.TheVariants.{U}
 use Rattle.rv32_decode.specs.declared.instruction.Instr.{Instr}
 use Rattle.rv32_decode.specs.declared.operations.Op.TheVariants.{Lui, Addi, Ecall}
 use Rattle.rvv_decode.specs.Rows.{rows, means}
@@ -15,7 +14,7 @@ use Rattle.rvv_decode.specs.OpmRows.{opm_rows}
 use Rattle.rvv_decode.specs.ConfigRows.{config_rows}
 use Rattle.rvv_decode.specs.MemoryRows.{load_rows, store_rows}
 use Rattle.rvv_decode.specs.declared.instruction.VInstr.{VInstr}
-use Rattle.rvv_decode.specs.declared.instruction.VOp.TheVariants.{Opi, Opm, Config}
+use Rattle.rvv_decode.specs.declared.instruction.VOp.TheVariants.{Opm, Config}
 use Rattle.rvv_decode.specs.declared.instruction.ConfigOp.TheVariants.{Vsetvli}
 use Rattle.rvv_decode.specs.declared.instruction.Form.TheVariants.{V}
 use Rattle.rvv_decode.specs.declared.instruction.OpmOp.{OpmOp}
@@ -29,10 +28,10 @@ use Rattle.rvv_meaning.specs.States.{Core, call_of, carried_out, executed_scalar
 use Rattle.rvv_meaning.specs.declared.Meaning.TheVariants.{Scalar}
 use Rattle.rvv_meaning.specs.declared.Next.TheVariants.{Perform}
 use Rattle.rvv_meaning.specs.Vectors.{configuration_effect, vector_effect}
-use Rattle.work_gen.specs.Words.{setting_word, setting_of_words, lui_word, vid_word, vadd_word, operations, operation_word}
-use Rattle.work_runs.specs.Stages.{Stage, opening, set, leaving, Width, bytes, halves, words, name_of, type_of, exit_number}
+use Rattle.work_gen.specs.Words.{setting_word, lui_word, vid_word, vadd_word, operation_word}
+use Rattle.work_runs.specs.Stages.{Stage, set, leaving, Width, bytes, halves, words, name_of}
 use Rattle.work_runs.proofs.Legal.{legal-plain, legal-index, legal-configuration}
-use Rattle.work_runs.proofs.Ready.{Registers, registers-written, Ready, GoesTo, Continues, Goes, Works, works, vector-continues}
+use Rattle.work_runs.proofs.Ready.{registers-written, Ready, GoesTo, Continues, Goes, Works, works, vector-continues}
 use Rattle.work_runs.proofs.Meanings.{Computes, field-mask, not-scalar, operation-computes, vadd-computes, vid-computes}
 
 -- ---- configurations
@@ -156,3 +155,13 @@ reduced-goes = works words 0x0fff20d7 reduced-works
 
 pub moved-goes : Goes (set words) 0x42102557 (set words)
 moved-goes = works words 0x42102557 moved-works
+
+-- the setting of a number is that of some width
+pub setting-for : (number : ℕ) → (w : Width) × (setting_word number ≡ setting_for w)
+setting-for number = by (number % 3) (omega arith)
+  where
+    by : (k : ℕ) → k < 3 → (w : Width) × (0x0c0072d7 + 2 ^ 23 * k ≡ setting_for w)
+    by zero low = (bytes, refl)
+    by (suc zero) low = (halves, refl)
+    by (suc (suc zero)) low = (words, refl)
+    by (suc (suc (suc k))) low = absurd (omega arith)

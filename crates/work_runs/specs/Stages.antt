@@ -1,5 +1,5 @@
 -- What is known of the machine between the words of a workload.
-use Rattle.std.specs.Prelude.{◌≡◌, ⊤, ℕ, ◌+◌, ◌*◌, Bool, true, false, List, slice_index, length}
+use Rattle.std.specs.Prelude.{◌≡◌, ⊤, ℕ, true, false, slice_index}
 use Rattle.vtype_cfg.specs.declared.vtype.Vtype.{Vtype}
 use Rattle.rvv_meaning.specs.States.{Core}
 
