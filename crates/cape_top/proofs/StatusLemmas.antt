@@ -32,7 +32,7 @@ run_ended ReadFault run = run
 run_ended WriteFault run = run
 run_ended NoMemory run = run
 
--- an answer of the machine is the end of a run, and keeps the machine unless it met what is not built
+-- an answer of the machine is the end of a run, and keeps the machine
 pub run_of_answer : (a : Step) → IsOfRun (status_for a)
 run_of_answer Ran = tt
 run_of_answer (Exited c) = tt

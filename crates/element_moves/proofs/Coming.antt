@@ -11,7 +11,7 @@ use Rattle.element_ops.proofs.Writing.{element-with_elements}
 use Rattle.rvv_decode.specs.declared.instruction.VInstr.{VInstr}
 use Rattle.vtype_cfg.specs.declared.configuration.Cfg.{Cfg}
 use Rattle.rvv_meaning.specs.Elementwise.{Elementwise, size_of, is_ones, element_after, registers_by, registers_after}
-use Rattle.rvv_meaning.specs.Whole.{in_group}
+use Rattle.element_moves.specs.Permutations.{in_group}
 use Rattle.element_moves.specs.Steps.{Fits, Reads, ReadsBits, registers, group_elements, is_left_in, fills_tail, put, ones, element_written, ones_from, tail_written}
 use Rattle.element_moves.proofs.Staying.{bit-stays, element-stays}
 
@@ -28,7 +28,7 @@ unfilled false w old = refl
 -- the elements of a destination, so many of them, from vstart on
 module _ (i : VInstr) (c : Cfg) (len : ℕ) (masked : Bool) (value : ℕ → ℕ) (v : List (List ℕ)) (fits : Fits i c) (are : AreRegisters (size_of c) v) (some : 0 < size_of c) where
   abbrev e : Elementwise
-  e = in_group i c 0 v c.vstart len masked value
+  e = in_group i c len masked value
 
   abbrev w : ℕ
   w = c.vtype.sew

@@ -1,11 +1,11 @@
 -- What legality says of a move: where its destination and its sources lie.
-use Rattle.std.proofs.Common.{◌≡◌, ℕ, ◌+◌, ◌*◌, ◌/◌, ◌<◌, ◌≤◌, false, IsTrue, refl, ap, arith, inl, inr, ⊎_elim}
+use Rattle.std.proofs.Common.{◌≡◌, ℕ, ◌+◌, ◌*◌, ◌/◌, ◌<◌, ◌≤◌, false, refl, ap, arith, inl, inr, ⊎_elim}
 use Rattle.std.proofs.Math.Nat.{mul-le-mul_right}
 use Rattle.element_ops.specs.Elements.{IsSize}
 use Rattle.legal_groups.specs.Facts.{IsElementWidth, registers_for}
 use Rattle.legal_groups.specs.Rules.{Lies, AreApart}
 use Rattle.legal_groups.proofs.Valid.{Held}
-use Rattle.legal_groups.proofs.Widths.{at_width, in_force, vlmax-held_at, vlmax-short}
+use Rattle.legal_groups.proofs.Widths.{at_width, vlmax-held_at, vlmax-short}
 use Rattle.rvv_decode.specs.declared.instruction.VInstr.{VInstr}
 use Rattle.vtype_cfg.specs.declared.configuration.Cfg.{Cfg}
 use Rattle.vtype_cfg.specs.Classes.{Place, mask, group, count_at}
@@ -54,7 +54,7 @@ module _ (i : VInstr) (c : Cfg) (n : ℕ) (valid : Held c) (words : c.vlen ≡ 3
       let s = sized n w sew in
       let g = registers_for c.vtype w in
       let lies = lie w sew in
-      let short = vlmax-short c.vtype c.vlen there there in
+      let short = vlmax-short c.vtype c.vlen valid.setting there in
       let length = valid.length in
       let bytes : g * (c.vlen / w * (w / 8)) ≡ g * size_of c = ap (λ (z : ℕ). g * z) (filled w sew) in
       record {

@@ -1,5 +1,5 @@
 -- What instructions leave that move elements of the vector registers without a program: permutations.
-use Rattle.std.specs.Prelude.{◌≡◌, ℕ, false, not, List, Option, Some, None}
+use Rattle.std.specs.Prelude.{◌≡◌, ℕ, Bool, false, not, List, Option, Some, None}
 use Rattle.std.specs.Option.{option_map}
 use Rattle.bit_rows.specs.Slices.{Slices}
 use Rattle.cam_chain.specs.Views.{registers_of}
@@ -12,8 +12,9 @@ use Rattle.rvv_decode.specs.declared.instruction.VOp.TheVariants.{Opi, Opm}
 use Rattle.rvv_decode.specs.declared.instruction.OpiOp.TheVariants.{Vrgather, Vrgatherei16}
 use Rattle.rvv_decode.specs.declared.instruction.OpmOp.TheVariants.{Vcompress, Viota}
 use Rattle.vtype_cfg.specs.declared.configuration.Cfg.{Cfg}
+use Rattle.vtype_cfg.specs.Classes.{group, count_at}
 use Rattle.rvv_meaning.specs.Elementwise.{Elementwise, registers_after, clips}
-use Rattle.rvv_meaning.specs.Whole.{Left, elements, number, Leaving, in_group, read, from_vs2, bit_of_vs1, is_set, gathered, gathered_by_index, gathered_by_sixteen, set_below, compressed}
+use Rattle.rvv_meaning.specs.Whole.{Left, elements, number, Leaving, read, from_vs2, bit_of_vs1, is_set, gathered, gathered_by_index, gathered_by_sixteen, set_below, compressed}
 
 -- The registers w are those that the instruction leaves of v, and it clips no element.
 abbrev pub LeavesRegisters : Cfg → (v : List (List ℕ)) → Option Left → (w : List (List ℕ)) → Type 0
@@ -42,17 +43,31 @@ abbrev pub Permutation : Type 0
 Permutation = List (List ℕ) → Elementwise
 
 module _ (i : VInstr) (c : Cfg) where
+  -- elements of the group from vd on, below a length
+  abbrev pub in_group : (len : ℕ) (masked : Bool) (value : ℕ → ℕ) → Elementwise
+  in_group len masked value = record {
+    vd = i.vd;
+    registers = count_at c.vtype (group c.vtype.sew);
+    width = c.vtype.sew;
+    from = c.vstart;
+    len = len;
+    vl = c.vl;
+    masked = masked;
+    value = λ w e. value e;
+    clipped = λ w e. false;
+  }
+
   -- the elements of vs2 at the indices in vs1, of w bits
   abbrev pub gathered_by : (w : ℕ) → Permutation
-  gathered_by w v = in_group i c 0 v c.vstart c.vl (not i.vm) (λ e. gathered i c 0 v (read i c 0 v w i.vs1 e))
+  gathered_by w v = in_group c.vl (not i.vm) (λ e. gathered i c 0 v (read i c 0 v w i.vs1 e))
 
   -- the numbers of set places below each element
   abbrev pub counted : Permutation
-  counted v = in_group i c 0 v c.vstart c.vl (not i.vm) (λ e. count e (is_set i c 0 v))
+  counted v = in_group c.vl (not i.vm) (λ e. count e (is_set i c 0 v))
 
   -- the elements of vs2 whose bit of vs1 is 1
   abbrev pub packed : Permutation
-  packed v = in_group i c 0 v c.vstart (count c.vl (bit_of_vs1 i c 0 v)) false (λ e. from_vs2 i c 0 v (nth e c.vl (bit_of_vs1 i c 0 v)))
+  packed v = in_group (count c.vl (bit_of_vs1 i c 0 v)) false (λ e. from_vs2 i c 0 v (nth e c.vl (bit_of_vs1 i c 0 v)))
 
 -- the registers of the slices t are those that a permutation leaves of the registers of s
 abbrev pub Leaves : Cfg → Permutation → (s t : Slices) → Type 0

@@ -1,33 +1,28 @@
 -- Slides by one place, which put the scalar into one element after the group.
-use Rattle.std.proofs.Common.{◌≡◌, ◌≢◌, ℕ, zero, suc, ◌+◌, ◌-◌, ◌*◌, ◌/◌, ◌<◌, ◌≤◌, max, min, Bool, true, false, cond, not, ◌&&◌, ◌||◌, eqb, ltb, leb, List, ◌∷◌, ◌++◌, Some, length, add-one, length-append, refl, sym, ◌∙◌, ap, subst, arith, ⊎_elim}
+use Rattle.std.proofs.Common.{◌≡◌, ℕ, ◌+◌, ◌*◌, ◌/◌, ◌<◌, max, min, Bool, true, false, cond, not, eqb, List, ◌∷◌, ◌++◌, Some, add-one, length-append, refl, sym, ◌∙◌, ap, arith}
 use Rattle.std.specs.Prelude.{IsTrue}
-use Rattle.std.proofs.lemmas.Bool.{cases_eq, eq-eqb, ne_eqb, lt-ltb, le-leb}
-use Rattle.std.proofs.lemmas.Bool.Decides.{nat_tests}
 use Rattle.std.proofs.Math.Nat.{div-lt_iff_lt-mul}
 use Rattle.bit_rows.specs.Slices.{Slices}
 use Rattle.cam_chain.specs.Views.{registers_of}
-use Rattle.element_ops.specs.Elements.{Registers, element_of, bits_of}
+use Rattle.element_ops.specs.Elements.{Registers}
 use Rattle.frame_laws.specs.Bytes.{AreResults}
 use Rattle.frame_laws.specs.Bytes as frame
-use Rattle.frame_laws.specs.Laws.{Framed, Legal, AllRealised}
+use Rattle.frame_laws.specs.Laws.{Framed}
 use Rattle.frame_laws.specs.Programs.{program}
 use Rattle.frame_laws.specs.Realising.{Realised}
 use Rattle.frame_laws.specs.Shapes.{Shape}
-use Rattle.frame_laws.specs.Singles.{with_single, single_shape, single_register, single_bounds, single_operations, HasSingle}
+use Rattle.frame_laws.specs.Singles.{with_single, single_shape, single_bounds, single_operations, HasSingle}
 use Rattle.frame_laws.proofs.Costs.{reaches}
 use Rattle.frame_laws.proofs.Singles.{single_bytes_law}
 use Rattle.frame_meaning.proofs.Meaning.{meaning_law}
 use Rattle.frame_meaning.proofs.OperandWidths.{width-of}
-use Rattle.frame_meaning.specs.Realising.{RealisesInstruction}
 use Rattle.frame_meaning.specs.Shapes.{shape_of}
-use Rattle.gen_perm.specs.Lists.{single_ops}
-use Rattle.gen_perm.specs.Moves.{slide_result}
 use Rattle.gen_perm.proofs.Moving.{realises-scalar, single-measured}
 use Rattle.micro_ir.specs.declared.op.MicroOp.{MicroOp}
 use Rattle.micro_ir.specs.declared.op.MicroOp.TheVariants.{Window}
 use Rattle.micro_ir.specs.Measures.{counts}
 use Rattle.micro_ir.specs.Pieces.{commit}
-use Rattle.micro_ir.specs.Replay.{replay, tally, counts_and, all_keep_control, AllInRange}
+use Rattle.micro_ir.specs.Replay.{replay, counts_and, all_keep_control}
 use Rattle.micro_ir.specs.Steps.{micros}
 use Rattle.micro_ir.specs.WorkRows.{active_row, scalar_row}
 use Rattle.micro_ir.proofs.Keeping.{micros-keep}
@@ -43,7 +38,7 @@ use Rattle.move_exec.specs.declared.bodies.Body.{Body}
 use Rattle.move_exec.specs.declared.bodies.Body.TheVariants.{Slid}
 use Rattle.move_exec.specs.declared.frames.Frame.{Frame}
 use Rattle.move_exec.specs.Bodies.{body_list}
-use Rattle.move_exec.specs.Frames.{frame_bounds, frame_program}
+use Rattle.move_exec.specs.Frames.{frame_bounds}
 use Rattle.move_exec.specs.Written.{group_registers, group_frame}
 use Rattle.move_exec.specs.Laws.{Fine}
 use Rattle.move_exec.specs.Moves.{single_list}
@@ -54,7 +49,7 @@ use Rattle.move_exec.proofs.Moved.{no-bit, elements_from, tailed, slid-sound, sl
 use Rattle.move_exec.proofs.Quiet.{IsQuiet, quiet-keep, quiet-append, program-quiet}
 use Rattle.move_exec.proofs.Sized.{sized_shape, sized-framed}
 use Rattle.move_exec.proofs.Slides.{slid_result, slid_source, FitsDirection, slid-legal, slid-realised, plain-bounded}
-use Rattle.move_exec.proofs.Sound.{Sound, measured}
+use Rattle.move_exec.proofs.Sound.{measured}
 use Rattle.move_exec.proofs.Standing.{Grouped}
 use Rattle.move_exec.proofs.Valid.{valid-length, some-columns}
 

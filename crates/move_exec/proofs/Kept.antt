@@ -1,12 +1,11 @@
 -- Where no element is agnostic, the registers after an instruction are the same under both policies.
-use Rattle.std.proofs.Common.{◌≡◌, ℕ, ◌*◌, ◌/◌, ◌<◌, ◌≤◌, Bool, true, false, cond, not, ◌&&◌, ◌||◌, ltb, eqb, List, refl, sym, ◌∙◌, ap, subst, arith}
-use Rattle.std.specs.Int.{from_bool}
+use Rattle.std.proofs.Common.{◌≡◌, ℕ, ◌*◌, ◌/◌, ◌<◌, ◌≤◌, Bool, true, false, cond, ◌&&◌, ◌||◌, ltb, List, refl, ap, subst, arith}
 use Rattle.std.proofs.lemmas.Bool.{lt-ltb}
 use Rattle.bit_laws.specs.Numbers.{low}
 use Rattle.bit_rows.specs.Slices.{Slices}
 use Rattle.cam_chain.specs.Views.{registers_of}
-use Rattle.element_ops.specs.Elements.{AreRegisters, with_elements, with_mask, mask_bit_of}
-use Rattle.element_ops.specs.Places.{Place, prestart, active}
+use Rattle.element_ops.specs.Elements.{AreRegisters}
+use Rattle.element_ops.specs.Places.{prestart, active}
 use Rattle.element_ops.proofs.Groups.{elements-same}
 use Rattle.frame_laws.proofs.Bytes.{are-registers_of}
 use Rattle.vtype_cfg.specs.declared.configuration.Cfg.{Cfg}

@@ -1,5 +1,5 @@
 -- The programs of the instructions that move elements realise them.
-use Rattle.std.proofs.Common.{◌≡◌, ℕ, zero, suc, ◌+◌, ◌-◌, ◌*◌, ◌/◌, ◌^◌, ◌<◌, ◌≤◌, max, min, Bool, true, false, cond, not, ◌&&◌, ◌||◌, eqb, ltb, leb, List, [], ◌++◌, append-nil, Option, None, Some, refl, sym, ◌∙◌, ap, subst, arith, ⊎_elim, inl, inr}
+use Rattle.std.proofs.Common.{◌≡◌, ℕ, ◌+◌, ◌-◌, ◌*◌, ◌/◌, ◌^◌, ◌<◌, ◌≤◌, max, true, false, cond, eqb, List, [], ◌++◌, append-nil, None, Some, refl, sym, ◌∙◌, ap, arith, ⊎_elim, inl}
 use Rattle.std.specs.Prelude.{IsTrue}
 use Rattle.std.proofs.lemmas.Bool.{cases_Bool, cases_eq, eq-eqb, ne_eqb, lt-ltb, le-leb}
 use Rattle.std.proofs.lemmas.Nat.{mul-le}
@@ -17,21 +17,18 @@ use Rattle.legal_groups.specs.Rules.{Obeys, Lies}
 use Rattle.legal_groups.proofs.Rules.{legal_law}
 use Rattle.legal_groups.proofs.Widths.{sew-width}
 use Rattle.micro_ir.specs.declared.op.MicroOp.{MicroOp}
-use Rattle.micro_ir.specs.Measures.{counts}
 use Rattle.micro_ir.specs.Replay.{replay, counts_and}
 use Rattle.rvv_decode.specs.declared.instruction.VInstr.{VInstr}
 use Rattle.vtype_cfg.specs.declared.configuration.Cfg.{Cfg}
-use Rattle.vtype_cfg.specs.declared.configuration.Policy.TheVariants.{Keep}
-use Rattle.vtype_cfg.specs.Classes.{Class, plain, slide_up, gather, scalar_in, whole_move, whole as whole_place, register as register_place, class_of, row_of, count_at, overlap_of, needs_no_setting, may_write_mask}
+use Rattle.vtype_cfg.specs.Classes.{plain, slide_up, gather, scalar_in, whole_move, whole as whole_place, register as register_place, class_of, row_of, count_at, overlap_of, needs_no_setting, may_write_mask}
 use Rattle.vtype_cfg.specs.Legality.{is_legal}
-use Rattle.vtype_cfg.specs.Settings.{is_valid, is_legal_vlen, vlmax}
+use Rattle.vtype_cfg.specs.Settings.{is_valid, vlmax}
 use Rattle.vtype_cfg.proofs.Lengths.{vlen_words}
 use Rattle.rvv_meaning.specs.Elementwise.{registers_after}
 use Rattle.rvv_meaning.specs.Operations.{operation_for}
 use Rattle.rvv_meaning.specs.Vectors.{left_of}
-use Rattle.rvv_meaning.specs.Whole.{elements, whole_for}
-use Rattle.move_exec.specs.declared.bodies.Body.TheVariants.{Slid, Picked, Bits, Scalar}
-use Rattle.move_exec.specs.declared.frames.Frame.{Frame}
+use Rattle.rvv_meaning.specs.Whole.{whole_for}
+use Rattle.move_exec.specs.declared.bodies.Body.TheVariants.{Bits}
 use Rattle.move_exec.specs.declared.moves.Move.{Move}
 use Rattle.move_exec.specs.declared.moves.Move.TheVariants.{Up, Down, UpByOne, DownByOne, Gathered, ScalarIn, Whole}
 use Rattle.move_exec.specs.Bodies.{Ready, emitted_at}
@@ -44,11 +41,11 @@ use Rattle.move_exec.proofs.ByOne.{single-fine}
 use Rattle.move_exec.proofs.Groups.{emitted-width}
 use Rattle.move_exec.proofs.Kept.{kept-registers}
 use Rattle.move_exec.proofs.Meant.{left-is, realises-elements}
-use Rattle.move_exec.proofs.Moved.{up-sound, slid-sound, gathered-sound, up-left, down-left, gathered-left, no-bit, ready-of}
+use Rattle.move_exec.proofs.Moved.{up-sound, slid-sound, gathered-sound, up-left, down-left, gathered-left, no-bit}
 use Rattle.move_exec.proofs.Quiet.{program-quiet}
 use Rattle.move_exec.proofs.Scalars.{first-sound, first-sits}
 use Rattle.move_exec.proofs.Slides.{offset-sits, element-here}
-use Rattle.move_exec.proofs.Sound.{Sound, sound-fine, leaves, measured}
+use Rattle.move_exec.proofs.Sound.{sound-fine, leaves, measured}
 use Rattle.move_exec.proofs.Standing.{Grouped, grouped, grouped-apart, same-or-apart, whole-elements}
 use Rattle.move_exec.proofs.Valid.{valid-setting, valid-length, length-bounded}
 use Rattle.move_exec.proofs.Wholes.{Wholly, kept, whole-sits, whole-sound, whole_elements}

@@ -1,5 +1,5 @@
 -- Slides by an amount and gathers of one element leave what they mean.
-use Rattle.std.proofs.Common.{◌≡◌, ℕ, ◌+◌, ◌-◌, ◌*◌, ◌/◌, ◌<◌, ◌≤◌, max, Bool, true, false, cond, not, ◌&&◌, ◌||◌, eqb, ltb, leb, List, Option, Some, refl, sym, ◌∙◌, ap, arith, inl, inr}
+use Rattle.std.proofs.Common.{◌≡◌, ℕ, ◌+◌, ◌-◌, ◌*◌, ◌/◌, ◌<◌, max, Bool, true, false, cond, not, ◌&&◌, ◌||◌, eqb, ltb, leb, List, refl, sym, ap, arith, inl, inr}
 use Rattle.std.specs.Prelude.{IsTrue}
 use Rattle.bit_rows.specs.Slices.{Slices}
 use Rattle.cam_chain.specs.Views.{registers_of}
@@ -16,12 +16,11 @@ use Rattle.vtype_cfg.specs.Classes.{group as group_place, count_at}
 use Rattle.vtype_cfg.specs.Settings.{is_legal_vlen, vlmax}
 use Rattle.vtype_cfg.proofs.Lengths.{vlen_words}
 use Rattle.rvv_meaning.specs.Elementwise.{Elementwise, size_of}
-use Rattle.rvv_meaning.specs.Whole.{Left, elements, amount, amount_in, index_in, slid_up, slid_down, gathered_by_index}
+use Rattle.rvv_meaning.specs.Whole.{elements, amount_in, index_in, slid_up, slid_down, gathered_by_index}
 use Rattle.move_exec.specs.declared.bodies.Body.{Body}
 use Rattle.move_exec.specs.declared.bodies.Body.TheVariants.{Slid, Picked}
 use Rattle.move_exec.specs.declared.frames.Frame.{Frame}
 use Rattle.move_exec.specs.Bodies.{Ready, IsOfWidth, AllThere, emitted_at}
-use Rattle.move_exec.specs.Frames.{frame_shape}
 use Rattle.move_exec.specs.Written.{Sits, group_registers, group_frame, amount_for, offset_frame}
 use Rattle.move_exec.specs.Moves.{gathers_one}
 use Rattle.move_exec.proofs.Groups.{emitted-width}

@@ -1,12 +1,11 @@
 -- The scalar into element 0 of one register.
-use Rattle.std.proofs.Common.{◌≡◌, ◌≢◌, ℕ, zero, suc, ◌+◌, ◌*◌, ◌/◌, ◌<◌, ◌≤◌, max, min, Bool, true, false, ◌&&◌, ◌||◌, ltb, List, refl, sym, ◌∙◌, ap, arith, inr}
-use Rattle.std.proofs.lemmas.Bool.{and_parts, ltb-true, false≢true}
+use Rattle.std.proofs.Common.{◌≡◌, ◌≢◌, ℕ, ◌+◌, ◌*◌, ◌/◌, ◌<◌, ◌≤◌, min, Bool, true, false, ◌&&◌, ◌||◌, ltb, List, refl, sym, ap, arith, inr}
+use Rattle.std.proofs.lemmas.Bool.{false≢true}
 use Rattle.element_ops.specs.Elements.{Registers}
 use Rattle.frame_laws.specs.Shapes.{Shape}
 use Rattle.frame_laws.specs.Laws.{Legal, AllRealised}
 use Rattle.frame_laws.proofs.Spans.{bounds_law}
 use Rattle.frame_meaning.proofs.OperandWidths.{width-of}
-use Rattle.frame_meaning.specs.Shapes.{shape_of}
 use Rattle.gen_perm.proofs.Moving.{realises-scalar}
 use Rattle.legal_groups.specs.Facts.{IsElementWidth}
 use Rattle.micro_ir.specs.Pieces.{commit}

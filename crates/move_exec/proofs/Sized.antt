@@ -1,9 +1,8 @@
 -- Frames of elements, with a scalar that is as wide, where there is one.
-use Rattle.std.proofs.Common.{◌≡◌, ℕ, ◌+◌, ◌*◌, ◌<◌, ◌≤◌, Bool, true}
+use Rattle.std.proofs.Common.{◌≡◌, ℕ, ◌*◌, Bool}
 use Rattle.element_ops.specs.Elements.{Registers}
 use Rattle.frame_laws.specs.Shapes.{Shape}
 use Rattle.frame_laws.specs.Laws.{Framed}
-use Rattle.legal_groups.specs.Facts.{IsElementWidth}
 use Rattle.vtype_cfg.specs.declared.configuration.Cfg.{Cfg}
 use Rattle.move_exec.specs.declared.frames.Frame.{Frame}
 use Rattle.move_exec.specs.Frames.{frame_shape}

@@ -1,12 +1,12 @@
 -- Slides and gathers of one element: that their lists compute the registers of a group.
-use Rattle.std.proofs.Common.{◌≡◌, ℕ, zero, suc, ◌+◌, ◌-◌, ◌*◌, ◌/◌, ◌<◌, ◌≤◌, max, Bool, true, false, cond, not, ◌&&◌, ◌||◌, eqb, ltb, leb, List, refl, sym, ◌∙◌, ap, arith, ◌⊎◌, inl, inr}
+use Rattle.std.proofs.Common.{◌≡◌, ℕ, ◌+◌, ◌-◌, ◌*◌, ◌/◌, ◌<◌, ◌≤◌, max, Bool, true, false, cond, not, ◌&&◌, ◌||◌, ltb, leb, refl, ◌∙◌, ap, arith, ◌⊎◌}
 use Rattle.std.proofs.lemmas.Bool.{and_parts, ltb-true, leb-true, lt-ltb, le-leb}
 use Rattle.std.proofs.lemmas.Nat.{div-mul-add}
 use Rattle.std.proofs.Math.Nat.{mul-le-mul_right}
 use Rattle.bit_rows.specs.Slices.{Slices}
 use Rattle.cam_chain.specs.Views.{registers_of}
 use Rattle.element_ops.specs.Elements.{Registers, element_in, element_of, bits_of}
-use Rattle.frame_laws.specs.Shapes.{Shape, Bounded, first_of}
+use Rattle.frame_laws.specs.Shapes.{Bounded}
 use Rattle.frame_laws.specs.Laws.{SameAt, Legal, AllRealised}
 use Rattle.frame_laws.specs.Classes.Operands.{group}
 use Rattle.frame_laws.proofs.Classes.Operands.{same-here}
@@ -20,7 +20,7 @@ use Rattle.micro_ir.specs.declared.op.MicroOp.{MicroOp}
 use Rattle.micro_ir.specs.declared.op.MicroOp.TheVariants.{Slide, Pick}
 use Rattle.micro_ir.specs.Replay.{IsInRange, AllInRange}
 use Rattle.micro_ir.specs.WorkRows.{result_row}
-use Rattle.steer_net.specs.Network.{is_within, is_width}
+use Rattle.steer_net.specs.Network.{is_within}
 use Rattle.steer_net.specs.Moves.{GroupReaches}
 use Rattle.rvv_decode.specs.declared.instruction.VInstr.{VInstr}
 use Rattle.vtype_cfg.specs.declared.configuration.Cfg.{Cfg}

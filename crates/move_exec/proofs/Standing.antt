@@ -1,5 +1,5 @@
 -- What legality and a valid configuration say of instructions that move elements.
-use Rattle.std.proofs.Common.{◌≡◌, ℕ, zero, suc, ◌+◌, ◌*◌, ◌/◌, ◌%◌, ◌<◌, ◌≤◌, Bool, true, false, not, refl, sym, ◌∙◌, ap, arith, ◌⊎◌, inl, inr, ⊎_elim}
+use Rattle.std.proofs.Common.{◌≡◌, ℕ, ◌+◌, ◌*◌, ◌/◌, ◌<◌, ◌≤◌, Bool, true, false, not, refl, sym, arith, ◌⊎◌, inl, inr, ⊎_elim}
 use Rattle.std.specs.Prelude.{IsTrue}
 use Rattle.std.proofs.lemmas.Bool.{and_parts, leb-true, false≢true}
 use Rattle.std.proofs.lemmas.Nat.{le-div}
@@ -7,13 +7,11 @@ use Rattle.frame_laws.proofs.Classes.Operands.{whole-register}
 use Rattle.frame_meaning.proofs.OperandWidths.{width-of}
 use Rattle.legal_groups.specs.Rules.{Lies, AreApart, Obeys, aligned_to}
 use Rattle.legal_groups.proofs.Overlaps.{same_or_apart}
-use Rattle.legal_groups.proofs.Rules.{legal_law}
 use Rattle.legal_groups.proofs.Widths.{at_width, vlmax-held_at}
 use Rattle.rvv_decode.specs.declared.instruction.VInstr.{VInstr}
 use Rattle.vtype_cfg.specs.declared.configuration.Cfg.{Cfg}
 use Rattle.vtype_cfg.specs.declared.vtype.Vtype.{Vtype}
-use Rattle.vtype_cfg.specs.Classes.{Class, Place, group as group_place, whole, nowhere, class_of, row_of, count_at, overlap_of, may_write_mask, needs_no_setting}
-use Rattle.vtype_cfg.specs.Legality.{is_legal}
+use Rattle.vtype_cfg.specs.Classes.{Class, Place, group as group_place, nowhere, row_of, count_at, overlap_of, may_write_mask, needs_no_setting}
 use Rattle.vtype_cfg.specs.Settings.{is_valid, is_legal_vlen, vlmax}
 use Rattle.vtype_cfg.proofs.Lengths.{vlen_from, vlen_words}
 use Rattle.move_exec.specs.Written.{Sits, group_registers, group_frame}

@@ -4,7 +4,7 @@ use Rattle.gen_logic.specs.Values.{takes_mask, differs, xnor}
 use Rattle.rvv_decode.specs.declared.instruction.VOp.{VOp}
 use Rattle.rvv_decode.specs.declared.instruction.VOp.TheVariants.{Opi, Opm}
 use Rattle.rvv_decode.specs.declared.instruction.OpmOp.TheVariants.{Vmand, Vmor, Vmxor, Vmnand, Vmnor, Vmxnor, Vmandn, Vmorn, Vmsbf, Vmsif, Vmsof, Vid, Vslide1up, Vslide1down, VmvSX}
-use Rattle.rvv_decode.specs.declared.instruction.OpiOp.TheVariants.{Vslideup, Vslidedown, VmvWhole}
+use Rattle.rvv_decode.specs.declared.instruction.OpiOp.TheVariants.{Vslideup, Vslidedown, Vrgather, VmvWhole}
 use Rattle.vtype_cfg.specs.Classes.{opi_class, opm_class, class_of}
 use Rattle.rvv_meaning.specs.Operations.{operation_for}
 use Rattle.rvv_meaning.specs.Whole.{Leaving, whole_for, mask_logic}
@@ -66,6 +66,7 @@ fits (Opm Vslide1down) = record { class = refl; plain = tt; whole = refl; none =
 fits (Opm VmvSX) = record { class = refl; plain = tt; whole = refl; none = refl }
 fits (Opi Vslideup) = record { class = refl; plain = tt; whole = refl; none = refl }
 fits (Opi Vslidedown) = record { class = refl; plain = tt; whole = refl; none = refl }
+fits (Opi Vrgather) = record { class = refl; plain = tt; whole = refl; none = refl }
 fits (Opi VmvWhole) = record { class = refl; plain = tt; whole = refl; none = refl }
 fits _ = tt
 

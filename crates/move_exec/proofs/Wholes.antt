@@ -1,19 +1,16 @@
 -- Moves of whole registers.
-use Rattle.std.proofs.Common.{◌≡◌, ◌≢◌, ℕ, zero, suc, ◌+◌, ◌*◌, ◌/◌, ◌<◌, ◌≤◌, max, Bool, true, false, cond, ◌&&◌, ◌||◌, eqb, ltb, List, refl, sym, ◌∙◌, ap, arith, ◌⊎◌, inl, inr, ⊎_elim}
+use Rattle.std.proofs.Common.{◌≡◌, ◌≢◌, ℕ, ◌+◌, ◌*◌, ◌/◌, ◌<◌, ◌≤◌, Bool, false, ◌&&◌, ◌||◌, ltb, List, refl, sym, ap, arith, ◌⊎◌, inr, ⊎_elim}
 use Rattle.std.specs.Prelude.{IsTrue}
 use Rattle.std.proofs.lemmas.Bool.{and_parts, ltb-true, false≢true}
-use Rattle.bit_rows.specs.Slices.{Slices}
-use Rattle.cam_chain.specs.Views.{registers_of}
 use Rattle.element_ops.specs.Elements.{Registers, element_in, element_of}
 use Rattle.frame_laws.specs.Shapes.{Shape}
-use Rattle.frame_laws.specs.Laws.{Legal, AllRealised}
-use Rattle.frame_laws.specs.Classes.Operands.{group, IsReadable, IsUnwritten}
+use Rattle.frame_laws.specs.Laws.{AllRealised}
+use Rattle.frame_laws.specs.Classes.Operands.{group, IsReadable}
 use Rattle.frame_laws.specs.Classes.Plain.{Operands, Value, IsPlain}
 use Rattle.frame_laws.proofs.Classes.Operands.{same-here}
 use Rattle.frame_laws.proofs.Classes.Plain.{plain-realised, plain-legal, reads}
 use Rattle.frame_laws.proofs.Spans.{bounds_law}
 use Rattle.frame_meaning.proofs.OperandWidths.{width-of}
-use Rattle.frame_meaning.specs.Shapes.{shape_of}
 use Rattle.gen_logic.specs.declared.kinds.Logic.TheVariants.{Second}
 use Rattle.gen_logic.proofs.Tables.{logic-numbers, logic-measured}
 use Rattle.legal_groups.specs.Facts.{IsElementWidth}

@@ -1,6 +1,5 @@
 -- The instructions that move elements between places, or bring a scalar into one: what each leaves, and what computes it.
-use Rattle.std.specs.Prelude.{◌≡◌, ℕ, ◌+◌, ◌-◌, ◌*◌, ◌/◌, ◌^◌, ◌<◌, Bool, true, false, cond, not, ◌&&◌, eqb, max, min, List, [], Option, None, Some}
-use lib.Dec.{ltb}
+use Rattle.std.specs.Prelude.{◌≡◌, ℕ, ◌+◌, ◌-◌, ◌*◌, ◌/◌, ◌^◌, ◌<◌, Bool, true, false, cond, not, eqb, max, min, List, []}
 use Rattle.cam_chain.specs.ChainValue.{no_counts}
 use Rattle.cam_chain.specs.declared.counts.Counts.{Counts}
 use Rattle.gen_logic.specs.declared.kinds.Logic.TheVariants.{Second}
@@ -13,16 +12,9 @@ use Rattle.micro_ir.specs.declared.op.MicroOp.TheVariants.{Window}
 use Rattle.rvv_decode.specs.declared.instruction.Form.{Form}
 use Rattle.rvv_decode.specs.declared.instruction.Form.TheVariants.{V, X, I}
 use Rattle.rvv_decode.specs.declared.instruction.VInstr.{VInstr}
-use Rattle.rvv_decode.specs.declared.instruction.VOp.{VOp}
-use Rattle.rvv_decode.specs.declared.instruction.VOp.TheVariants.{Opi, Opm}
-use Rattle.rvv_decode.specs.declared.instruction.OpiOp.{OpiOp}
-use Rattle.rvv_decode.specs.declared.instruction.OpiOp.TheVariants.{Vslideup, Vslidedown, Vrgather, VmvWhole}
-use Rattle.rvv_decode.specs.declared.instruction.OpmOp.{OpmOp}
-use Rattle.rvv_decode.specs.declared.instruction.OpmOp.TheVariants.{Vslide1up, Vslide1down, VmvSX}
 use Rattle.vtype_cfg.specs.declared.configuration.Cfg.{Cfg}
 use Rattle.vtype_cfg.specs.Classes.{Class, plain, slide_up, gather, scalar_in, whole_move}
 use Rattle.vtype_cfg.specs.Settings.{vlmax}
-use Rattle.rvv_meaning.specs.Elementwise.{is_ones}
 use Rattle.rvv_meaning.specs.Whole.{Leaving, slid_up, slid_down, slid_up_by_one, slid_down_by_one, gathered_by_index, scalar_in_first, moved_whole}
 use Rattle.move_exec.specs.declared.bodies.Body.{Body}
 use Rattle.move_exec.specs.declared.bodies.Body.TheVariants.{Bits, Slid, Picked, Scalar}

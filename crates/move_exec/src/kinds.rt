@@ -56,6 +56,7 @@ pub fn kind_of(op: VOp) -> Option<Kind>
         VOp::Opi(op) => match op {
             OpiOp::Vslideup => Some(Kind::Moves(Move::Up)),
             OpiOp::Vslidedown => Some(Kind::Moves(Move::Down)),
+            OpiOp::Vrgather => Some(Kind::Moves(Move::Gathered)),
             OpiOp::VmvWhole => Some(Kind::Moves(Move::Whole)),
             _ => None,
         },

@@ -1,12 +1,13 @@
 //! Elements that are moved without a program, on registers of 64 bits.
 ghost use Rattle.std.specs.Prelude.{◌≡◌, true, false};
+ghost use Rattle.rvv_meaning.specs.Vectors.{is_computed};
 ghost use Rattle.rvv_meaning.specs.Whole.{makes_number};
 
 use crate::chains::{Word, chain_of, cost_in, holds};
 use rvv_decode::{OpiOp, OpmOp, VOp, decode_v};
 use std::alloc::Global;
 use std::test::Fail;
-use vec_exec::{built, engine, permute};
+use vec_exec::{engine, permute};
 use vtype_cfg::{Cfg, Policy, Vtype, legal};
 
 // The length of a register, and the columns that hold it.
@@ -299,7 +300,8 @@ static ROWS: [Row; 18] = [
 
 // Whether the elements of an operation may be moved without a program.
 fn is_permutation(op: VOp) -> bool
-    ensures { result ≡ true → makes_number op ≡ false }
+    ensures computes { result ≡ true → is_computed op ≡ true }
+    ensures moves { result ≡ true → makes_number op ≡ false }
 {
     match op {
         VOp::Opi(op) => matches!(op, OpiOp::Vrgather | OpiOp::Vrgatherei16),
@@ -324,7 +326,7 @@ fn is_carried_out(alloc: Global, row: &Row) -> Result<bool, Fail> {
         policy: row.policy,
     };
     let i = decode_v(row.word).ok_or("a vector word")?;
-    if engine(&i) || !built(&i) || !is_permutation(i.op) {
+    if engine(&i) || !is_permutation(i.op) {
         return Err("an instruction without a program".into());
     }
     if !legal(&i, &cfg.vtype, cfg.vstart, cfg.vlen) {

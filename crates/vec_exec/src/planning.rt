@@ -10,8 +10,7 @@ ghost use Rattle.frame_meaning.specs.Shapes.{has_scalar};
 ghost use Rattle.vec_exec.specs.Recipes.{recipe_for};
 ghost use Rattle.vec_exec.specs.Recipes as lists;
 ghost use Rattle.fold_exec.specs.Kinds.{kind_for as fold_for};
-ghost use Rattle.move_exec.specs.Kinds.{kind_for};
-ghost use Rattle.vec_exec.specs.Programs.{prog, whole_program, whole_cost, program_by, is_engine, cost, cost_by, scalar_list, width_of};
+ghost use Rattle.vec_exec.specs.Programs.{prog, number_program, number_cost, whole_program, whole_cost, program_by, is_engine, cost, cost_by, scalar_list, width_of};
 
 use crate::halves::emit_half_registers;
 use crate::operands::{EIGHTHS, at_rows, half_scalar_number, scalar_number, width};
@@ -253,16 +252,15 @@ fn emit_program(recipe: Recipe, i: &VInstr, cfg: &Cfg, scalar: u32, buf: &mut Mi
 
 // The program of an instruction that makes one number of a whole group or a whole mask.
 fn emit_fold(i: &VInstr, cfg: &Cfg, buf: &mut MicroBuf)
-    requires moves { kind_for i.now.op ≡ None }
     requires kind { is_some (fold_for i.now.op) ≡ true }
     requires fields { IsInRange i.now }
     requires legal { is_legal i.now cfg.now.vtype cfg.now.vstart ≡ true }
     requires valid { IsTrue (is_valid cfg.now) }
     requires empty { buf.old.ops ≡ [] }
     requires room { buf.old.spare ≡ 262144 }
-    ensures program { buf.new.ops ≡ whole_program i.now cfg.now }
+    ensures program { buf.new.ops ≡ number_program i.now cfg.now }
     ensures realises { (x : ℕ) → RealisesInstruction i.now cfg.now x buf.new.ops }
-    ensures cost { tally buf.new.ops ≡ whole_cost i.now cfg.now }
+    ensures cost { tally buf.new.ops ≡ number_cost i.now cfg.now }
     ensures range { AllInRange (cfg.now.vlen / 32) buf.new.ops }
     ensures spare { buf.new.spare + length buf.new.ops ≡ buf.old.spare }
 {
@@ -273,7 +271,7 @@ fn emit_fold(i: &VInstr, cfg: &Cfg, buf: &mut MicroBuf)
 }
 
 // The program of an instruction that reads whole groups or masks.
-fn emit_whole(i: &VInstr, cfg: &Cfg, buf: &mut MicroBuf)
+fn emit_whole(i: &VInstr, cfg: &Cfg, scalar: u32, buf: &mut MicroBuf)
     requires engine { is_engine i.now ≡ true }
     requires none { recipe_for i.now.op ≡ None }
     requires fields { IsInRange i.now }
@@ -281,14 +279,14 @@ fn emit_whole(i: &VInstr, cfg: &Cfg, buf: &mut MicroBuf)
     requires valid { IsTrue (is_valid cfg.now) }
     requires empty { buf.old.ops ≡ [] }
     requires room { buf.old.spare ≡ 262144 }
-    ensures program { buf.new.ops ≡ whole_program i.now cfg.now }
-    ensures realises { (x : ℕ) → RealisesInstruction i.now cfg.now x buf.new.ops }
+    ensures program { buf.new.ops ≡ whole_program i.now cfg.now scalar }
+    ensures realises { RealisesInstruction i.now cfg.now scalar buf.new.ops }
     ensures cost { tally buf.new.ops ≡ whole_cost i.now cfg.now }
     ensures range { AllInRange (cfg.now.vlen / 32) buf.new.ops }
     ensures spare { buf.new.spare + length buf.new.ops ≡ buf.old.spare }
 {
     match move_exec::kind_of(i.op) {
-        Some(kind) => move_exec::plan(kind, i, cfg, buf),
+        Some(kind) => move_exec::plan(kind, i, cfg, scalar, buf),
         None => emit_fold(i, cfg, buf),
     }
 }
@@ -309,7 +307,7 @@ fn emit_by_operation(i: &VInstr, cfg: &Cfg, scalar: u32, buf: &mut MicroBuf)
 {
     match recipe_of(i.op) {
         Some(recipe) => emit_program(recipe, i, cfg, scalar, buf),
-        None => emit_whole(i, cfg, buf),
+        None => emit_whole(i, cfg, scalar, buf),
     }
 }
 

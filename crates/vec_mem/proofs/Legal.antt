@@ -22,7 +22,7 @@ use Rattle.legal_groups.specs.Facts.{IsElementWidth, registers_for, SparesMask, 
 use Rattle.legal_groups.proofs.Accesses.{legal_access_law}
 use Rattle.legal_groups.proofs.Rules.{in_setting}
 use Rattle.legal_groups.proofs.Valid.{held}
-use Rattle.legal_groups.proofs.Widths.{in_force, vlmax-short}
+use Rattle.legal_groups.proofs.Widths.{vlmax-short}
 use Rattle.rvv_meaning.specs.Elementwise.{size_of}
 use Rattle.rvv_meaning.specs.VectorAccesses.{of_elements, of_registers, access_of, shape_of, trims_of, is_store}
 use Rattle.rvv_meaning.specs.declared.accesses.Access.{Access}
@@ -108,7 +108,7 @@ length-short c valid =
     let length = all.length in
     ⊎_elim
     (λ (none : c.vtype.vill ≡ true). let zero_length = none-under_vill c none in omega arith)
-    (λ (there : c.vtype.vill ≡ false). let short = vlmax-short c.vtype c.vlen (in_force c.vtype all.setting there) there in omega arith)
+    (λ (there : c.vtype.vill ≡ false). let short = vlmax-short c.vtype c.vlen all.setting there in omega arith)
     (cases_Bool c.vtype.vill)
 
 -- a load or a store that needs a setting has one
@@ -133,8 +133,8 @@ module _ (i : VInstr) (c : Cfg) (n : ℕ) (valid : IsTrue (is_valid c)) (words :
   vlen-least : 32 ≤ c.vlen
   vlen-least = vlen_from c.vlen (held c valid).vlen
 
-  most-short : is_supported c.vtype ≡ true → c.vtype.vill ≡ false → vlmax c.vtype c.vlen ≤ c.vlen
-  most-short supported there = vlmax-short c.vtype c.vlen supported there
+  most-short : c.vtype.vill ≡ false → vlmax c.vtype c.vlen ≤ c.vlen
+  most-short there = vlmax-short c.vtype c.vlen (held c valid).setting there
 
   -- the elements up to the greatest length lie in a group of elements of a width
   most-held : (w : ℕ) → IsElementWidth w → is_supported c.vtype ≡ true → c.vtype.vill ≡ false → vlmax c.vtype c.vlen ≤ registers_for c.vtype w * size_of c / (w / 8)
@@ -165,7 +165,7 @@ module _ (i : VInstr) (c : Cfg) (n : ℕ) (valid : IsTrue (is_valid c)) (words :
         let few = groups.few in
         let room = groups.room in
         let length = (held c valid).length in
-        let short = most-short groups.supported groups.vill in
+        let short = most-short groups.vill in
         let fits = most-held width is groups.supported groups.vill in
         record {
           size = size.0;
@@ -253,8 +253,7 @@ module _ (i : VInstr) (c : Cfg) (n : ℕ) (valid : IsTrue (is_valid c)) (words :
   mask-fits : MaskRoom i c.vtype → Fits c (of_registers i 1 8 ((c.vl + 7) / 8) true)
   mask-fits room =
       let length = (held c valid).length in
-      let there = in_force c.vtype (held c valid).setting room.0 in
-      let short = most-short there room.0 in
+      let short = most-short room.0 in
       registers-fit 1 8 ((c.vl + 7) / 8) true (inl refl) (omega arith) (omega (arith, room.1)) (omega arith) (omega arith)
 
   plain-load : (registers width len : ℕ) (agnostic_tail : Bool) → FitsLoad c (of_registers i registers width len agnostic_tail)
