@@ -104,7 +104,7 @@ static ROWS: [Row; 8] = [
         clips: true,
         cost: (1331, 370, 255),
     },
-    // 1 and a half, and 2 and a half: a tie goes to the even number
+    // 1.5 and 2.5: a tie goes to the even number
     Row {
         word: CLIP_BY_4,
         vtype: E8_M1,
@@ -167,7 +167,7 @@ struct Rounded {
 const MODES: usize = 4;
 
 static ROUNDED: [Rounded; 8] = [
-    // half of 255 and 2 is 128 and a half
+    // 128.5, half of 255 and 2
     Rounded {
         word: AVERAGE,
         vl: 1,
@@ -181,7 +181,7 @@ static ROUNDED: [Rounded; 8] = [
         clips: [false, false, false, false],
         cost: [(98, 42, 15), (98, 42, 15), (72, 24, 8), (98, 42, 15)],
     },
-    // 126 and a half, -127 and a half, -1/2, and -1 and a half
+    // 126.5, -127.5, -0.5 and -1.5
     Rounded {
         word: SIGNED_AVERAGE,
         vl: 4,
@@ -195,7 +195,7 @@ static ROUNDED: [Rounded; 8] = [
         clips: [false, false, false, false],
         cost: [(98, 42, 15), (98, 42, 15), (72, 24, 8), (98, 42, 15)],
     },
-    // -1/2, 127 and a half, 1 and a half, and -127 and a half, all modulo 256
+    // -0.5, 127.5, 1.5 and -127.5, modulo 256
     Rounded {
         word: HALF_DIFFERENCE,
         vl: 4,
@@ -209,7 +209,7 @@ static ROUNDED: [Rounded; 8] = [
         clips: [false, false, false, false],
         cost: [(98, 42, 15), (98, 42, 15), (72, 24, 8), (98, 42, 15)],
     },
-    // -127 and a half, 127 and a half, which becomes -128 where it goes up, 1 and a half, and -1/2
+    // -127.5, 127.5, which becomes -128 where it goes up, 1.5 and -0.5
     Rounded {
         word: SIGNED_HALF_DIFFERENCE,
         vl: 4,
@@ -223,7 +223,7 @@ static ROUNDED: [Rounded; 8] = [
         clips: [false, false, false, false],
         cost: [(98, 42, 15), (98, 42, 15), (72, 24, 8), (98, 42, 15)],
     },
-    // 1 and a half, 2 and a half, 127 and a half, 7 by no place, 2 and a quarter, 2 and three quarters, 1, and 1/128
+    // 1.5, 2.5, 127.5 and 7, as 8 does not count; and 2.25, 2.75, 1 and 1/128
     Rounded {
         word: SHIFT,
         vl: 8,
@@ -242,7 +242,7 @@ static ROUNDED: [Rounded; 8] = [
         clips: [false, false, false, false],
         cost: [(96, 79, 42), (98, 79, 42), (52, 43, 28), (98, 79, 42)],
     },
-    // -1 and a half, -2 and a half, -1/2, -7 by no place, -2 and a quarter, -2 and three quarters, -1, and 127/128
+    // -1.5, -2.5, -0.5 and -7; and -2.25, -2.75, -1 and 127/128
     Rounded {
         word: SIGNED_SHIFT,
         vl: 8,
@@ -261,7 +261,7 @@ static ROUNDED: [Rounded; 8] = [
         clips: [false, false, false, false],
         cost: [(108, 91, 49), (110, 91, 49), (64, 55, 35), (110, 91, 49)],
     },
-    // 1/2, -1/2, -127, and 1 and a half
+    // 0.5, -0.5, -127 and 1.5
     Rounded {
         word: FRACTION,
         vl: 4,
@@ -280,7 +280,7 @@ static ROUNDED: [Rounded; 8] = [
             (1333, 370, 255),
         ],
     },
-    // 1, 2, 255 and 254, and a half of each: what is rounded up to 256 is clipped
+    // 1.5, 2.5, 255.5 and 254.5: what is rounded up to 256 is clipped
     Rounded {
         word: UNSIGNED_CLIP_BY_4,
         vl: 4,
