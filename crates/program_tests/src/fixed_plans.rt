@@ -1,4 +1,6 @@
 //! Words of fixed point that are planned and carried out on registers of 64 bits, with the flag of clipped results.
+ghost use Rattle.std.specs.Prelude.{◌<◌};
+
 use crate::chains::{Cost, Word};
 use crate::planned::{Row, is_carried_out};
 use std::alloc::Global;
