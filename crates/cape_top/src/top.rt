@@ -65,7 +65,7 @@ pub fn cape<F: Files, S: Source, O: Sink, E: Sink>(
             do_on_image(alloc, command, OPERAND, files, input, out, err, kept)
         }
         Some(Command::Gen(workload)) => write_workload(alloc, workload, out),
-        Some(Command::Bench(workload)) => bench(alloc, workload, out, err, kept),
+        Some(Command::Bench(workload)) => bench(alloc, workload, out, kept),
         Some(Command::Help) => write_help(out),
         None => write_usage(err),
     }
