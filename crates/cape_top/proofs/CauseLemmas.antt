@@ -26,18 +26,7 @@ apart_refused : (s : Status) → IsApart s → IsRefused s → ⊥
 apart_refused (Refused f) apart refused = apart
 apart_refused _ apart refused = refused
 
-run_apart : (s : Status) → IsOfRun s → IsApart s
-run_apart (ExitedWith c) run = tt
-run_apart HasTrapped run = tt
-run_apart StepLimit run = tt
-run_apart Done run = tt
-run_apart (Refused f) run = run
-run_apart Usage run = run
-run_apart ReadFault run = run
-run_apart WriteFault run = tt
-run_apart NoMemory run = tt
-
--- the statuses of a text that is written, with memory or without, and those of a bench
+-- the statuses of a text that is written, with memory or without
 pub text_apart : (s : Status) → (s ≡ Done) ⊎ (s ≡ WriteFault) → IsApart s
 text_apart s (inl is) = rw is tt
 text_apart s (inr is) = rw is tt
@@ -59,12 +48,6 @@ pub made_runs : (s : Status) → (s ≡ Done) ⊎ ((s ≡ WriteFault) ⊎ (s ≡
 made_runs s (inl is) run = rw is at run
 made_runs s (inr (inl is)) run = rw is at run
 made_runs s (inr (inr is)) run = rw is at run
-
-pub bench_apart : (s : Status) → (IsOfRun s ⊎ (s ≡ Done)) ⊎ ((s ≡ WriteFault) ⊎ (s ≡ NoMemory)) → IsApart s
-bench_apart s (inl (inl run)) = run_apart s run
-bench_apart s (inl (inr is)) = rw is tt
-bench_apart s (inr (inl is)) = rw is tt
-bench_apart s (inr (inr is)) = rw is tt
 
 refused_runs : (s : Status) → IsRefused s → IsOfRun s → ⊥
 refused_runs (Refused f) refused run = run

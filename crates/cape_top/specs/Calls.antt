@@ -5,7 +5,7 @@ use Rattle.cape_io.specs.Devices.{Rose, KnownFile, word_at}
 use Rattle.cape_io.specs.declared.devices.Files.{Ghosts as FilesGhosts}
 use Rattle.cape_io.specs.declared.devices.Source.{Ghosts as SourceGhosts}
 use Rattle.cape_io.specs.declared.devices.Sink.{Ghosts as SinkGhosts}
-use Rattle.cape_io.specs.Views.{Devices, SourceView, devices, sink_view}
+use Rattle.cape_io.specs.Views.{Devices, devices}
 
 -- The files: the words that they were made over, what is known of the file of each name, the count of faults before the
 -- call and after it, and after it the place that was opened last and the count as that began.
@@ -38,13 +38,6 @@ abbrev pub call : {F S O E : Type 0} → FilesGhosts F → SourceGhosts S → Si
 call f s o e files files' input input' out out' err err' = record {
   files = files_call f files files';
   devices = devices s o e input input' out out' err err';
-}
-
--- the devices of a call that leaves the input as it is
-abbrev pub sinks : {O E : Type 0} → SinkGhosts O → SinkGhosts E → O → O → E → E → SourceView → Devices
-sinks o e out out' err err' input = record {
-  old = record { input = input; out = sink_view o out; err = sink_view e err };
-  new = record { input = input; out = sink_view o out'; err = sink_view e err' };
 }
 
 -- what is known of the file of the word at a place

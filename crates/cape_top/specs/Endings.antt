@@ -10,6 +10,7 @@ use Rattle.bit_rows.specs.Slices.{Slices}
 use Rattle.cam_chain.specs.ChainValue.{slices_of}
 use Rattle.cam_chain.specs.declared.counts.Counts.{Counts}
 use Rattle.guest_env.specs.Answers.{IsReading}
+use Rattle.rvv_meaning.specs.Calls.{exit_code}
 use Rattle.rvv_meaning.specs.States.{State, Core, run}
 use Rattle.rvv_meaning.specs.Texts.{report, usage_line}
 use Rattle.machine.specs.Answers.{step_for}
@@ -36,6 +37,7 @@ use Rattle.run_texts.specs.CountTexts.{counts_text, bench_line}
 use Rattle.run_texts.specs.WorkTexts.{work_text}
 use Rattle.vtype_cfg.specs.declared.configuration.Policy.TheVariants.{Keep}
 use Rattle.work_gen.specs.Images.{workload}
+use Rattle.work_runs.specs.Runs.{instructions}
 
 -- the status for an answer of the machine
 abbrev pub status_for : Step → Status
@@ -149,15 +151,14 @@ workload_start w = start (workload w.seed w.size) default_vlen Keep []
 unfoldable pub workload_reached : Workload → Kept
 workload_reached w = reached (workload_start w) default_steps
 
--- How a bench ends, by the answer of the machine at what the run of the workload reaches: where it exited, the line about the
--- run is written and the machine is kept; else the report line.
-abbrev pub bench_by : Step → Workload → Kept → Option (List ℕ) → Ending
-bench_by (Exited c) w k left =
-    record { status = Done; kept = Some k; left = left; out = bench_line w.seed w.size c k.state.core.csrs.retired k.counts; err = [] }
-bench_by answer w k left = ending_without_run (status_for answer) [] (report k.state) left
+-- the line about the run of a workload that reaches this: the code that its guest exits with, as many instructions as it has
+-- words, and what they took
+abbrev pub bench_text : Workload → Kept → List ℕ
+bench_text w k = bench_line w.seed w.size (exit_code k.state.core.regs) (instructions w.size) k.counts
 
+-- How a bench ends that reaches this. Every workload exits, so the line is written and the machine is kept.
 abbrev pub bench_at : Workload → Kept → Option (List ℕ) → Ending
-bench_at w k left = bench_by (step_for k.state.core.mode) w k left
+bench_at w k left = record { status = Done; kept = Some k; left = left; out = bench_text w k; err = [] }
 
 abbrev pub bench_ending : Workload → Option (List ℕ) → Ending
 bench_ending w left = bench_at w (workload_reached w) left

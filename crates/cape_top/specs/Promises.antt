@@ -14,7 +14,6 @@ use Rattle.command_words.specs.declared.words.Workload.{Workload}
 use Rattle.machine.specs.Moments.{Held}
 use Rattle.cape_top.specs.declared.ending.Status.{Status}
 use Rattle.cape_top.specs.declared.ending.Status.TheVariants.{Done, Usage, ReadFault, WriteFault, NoMemory}
-use Rattle.cape_io.specs.Views.{Devices, SourceView}
 use Rattle.cape_top.specs.Statuses.{IsEnded, IsOfRun, IsRefused}
 use Rattle.cape_top.specs.Calls.{Call, HasNoFault, InputRose, SinkRose, known_at}
 use Rattle.cape_top.specs.Debugging.{DebugEnds, DebugReadFails, FileFails}
@@ -44,10 +43,6 @@ known_input options words c = file_if c.files.known words options.input
 -- a command on the image of the word at a place ends as it should
 abbrev pub ImageEnds : ImageCommand → ℕ → Call → Status → Option Held → Type 0
 ImageEnds command place c status kept = Ends (ending_at_place command place c) c.devices status kept
-
--- a bench ends as it should, whatever the input is, which it leaves
-abbrev pub BenchEnds : Workload → (SourceView → Devices) → Status → Option Held → Type 0
-BenchEnds w d status kept = (input : SourceView) → Ends (Some (bench_ending w input.left)) (d input) status kept
 
 -- A command leaves a machine only with these statuses: a run where it came to its end, and a bench that is done.
 abbrev pub MayKeepOf : ImageCommand → Status → Type 0
@@ -99,7 +94,7 @@ ReadFails Help place known c = ⊥
 abbrev pub ReadCause : ImageCommand → ℕ → Call → Status → Type 0
 ReadCause command place c status = status ≡ ReadFault → ImageReadFails command place (known_at place c) c
 
--- the commands that run a guest, those that are done, and those that take memory
+-- the commands that end as their guest does, those that are done, and those that take memory
 abbrev pub RunsImage : ImageCommand → Type 0
 RunsImage (Run options) = ⊤
 RunsImage Check = ⊥
@@ -108,7 +103,7 @@ abbrev pub RunsGuest : Command → Type 0
 RunsGuest (OnImage command) = RunsImage command
 RunsGuest (Debug options) = ⊥
 RunsGuest (Gen w) = ⊥
-RunsGuest (Bench w) = ⊤
+RunsGuest (Bench w) = ⊥
 RunsGuest Help = ⊥
 
 abbrev pub IsDone : Command → Type 0
@@ -125,7 +120,7 @@ TakesMemory _ = ⊤
 
 -- Why a call on these words has this status.
 pub record HasCause (words : List (List ℕ)) (c : Call) (status : Status) : Type 0 where
-  -- A guest's end, or the budget's, is that of a command that runs one; a command of another kind is done.
+  -- A guest's end, or the budget's, is that of a command that ends so; a command of another kind is done.
   pub of_run : IsOfRun status → IsSomeAnd (command_of words) RunsGuest
   pub of_done : status ≡ Done → IsSomeAnd (command_of words) IsDone
   -- An image is refused only where the words are a command on one.

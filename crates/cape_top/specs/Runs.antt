@@ -7,12 +7,15 @@ use Rattle.machine.specs.Views.{Shows}
 use Rattle.machine.specs.Opening.{memory_of}
 use Rattle.run_texts.specs.CountTexts.{bench_line}
 use Rattle.machine.specs.declared.answers.Step.{Step}
+use Rattle.rvv_meaning.specs.Calls.{exit_code}
+use Rattle.rvv_meaning.specs.declared.Mode.TheVariants.{Exited}
 use Rattle.rvv_meaning.specs.Images.{start_state}
 use Rattle.rvv_meaning.specs.States.{State, run}
 use Rattle.command_words.specs.declared.words.RunOptions.{RunOptions}
 use Rattle.command_words.specs.declared.words.Workload.{Workload}
 use Rattle.cape_top.specs.declared.ending.Status.{Status}
 use Rattle.cape_io.specs.Views.{DeviceViews, Devices}
+use Rattle.work_runs.specs.Runs.{instructions}
 use Rattle.cape_top.specs.Endings.{Ending, Ends, ReadsWithin, ending_at, ending_from, end_text, shown_text, workload_start}
 
 -- what is shown of a machine, and the text at the end of its run
@@ -56,6 +59,11 @@ LoadedReads l options v = IfSome v.input.left (λ input. ReadsWithin (loaded_sta
 abbrev pub OpensWorkload : Workload → Held → Type 0
 OpensWorkload w machine = (v : DeviceViews) → v.input.left ≡ Some [] → ShowsFirst (first_moment (workload_start w)) machine v
 
--- the line about the run of a workload that exited with a code, by its machine
-abbrev pub bench_text : Workload → ℕ → Held → List ℕ
-bench_text w code machine = bench_line w.seed w.size code machine.core.csrs.retired machine.chain.counts
+-- The machine of a workload has exited with the last word.
+pub record HasExited (w : Workload) (machine : Held) : Type 0 where
+  pub mode : machine.core.mode ≡ Exited (exit_code machine.core.regs)
+  pub retired : machine.core.csrs.retired ≡ instructions w.size
+
+-- the line about the run of a workload, by its machine
+abbrev pub run_text : Workload → Held → List ℕ
+run_text w machine = bench_line w.seed w.size (exit_code machine.core.regs) machine.core.csrs.retired machine.chain.counts

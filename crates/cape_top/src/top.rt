@@ -67,7 +67,7 @@ pub fn cape<F: Files, S: Source, O: Sink, E: Sink>(
         }
         Some(Command::Debug(options)) => debug(alloc, options, OPERAND, files, input, out, err),
         Some(Command::Gen(workload)) => write_workload(alloc, workload, out),
-        Some(Command::Bench(workload)) => bench(alloc, workload, out, err, kept),
+        Some(Command::Bench(workload)) => bench(alloc, workload, out, kept),
         Some(Command::Help) => write_help(out),
         None => write_usage(err),
     }

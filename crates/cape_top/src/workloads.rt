@@ -1,25 +1,19 @@
 // Workloads: the image of one, and its run.
-ghost use Rattle.std.specs.Prelude.{◌≡◌, ◌⊎◌, None, true, false, IfOk, is_ok};
-ghost use Rattle.cape_io.specs.Devices.{Rose};
+ghost use Rattle.std.specs.Prelude.{◌≡◌, ◌⊎◌, None, Some, true, false, IfOk, is_ok};
 ghost use Rattle.cape_io.specs.Views.{Writes};
 ghost use Rattle.command_words.specs.Grammar.{IsWorkloadInRange};
-ghost use Rattle.rvv_meaning.specs.declared.Mode.TheVariants.{Running};
-ghost use Rattle.machine.specs.Answers.{step_for};
+ghost use Rattle.rvv_meaning.specs.declared.Mode.TheVariants.{Running, Exited};
+ghost use Rattle.rvv_meaning.specs.Calls.{exit_code};
 ghost use Rattle.work_gen.specs.Images.{workload as image_of};
-ghost use Rattle.cape_top.specs.Calls.{sinks};
-ghost use Rattle.report_texts.specs.Lines.{line_of};
-ghost use Rattle.cape_top.specs.Endings.{IsAt, status_for as status_of_answer, workload_reached};
-ghost use Rattle.cape_top.specs.Promises.{BenchEnds};
-ghost use Rattle.cape_top.specs.Runs.{OpensWorkload, bench_text};
-ghost use Rattle.cape_top.specs.Statuses.{IsOfRun};
+ghost use Rattle.cape_top.specs.Endings.{IsAt, Keeps, bench_text, workload_reached};
+ghost use Rattle.cape_top.specs.Runs.{HasExited, OpensWorkload, run_text};
 
 use crate::ending::Status;
-use crate::running::status_for;
 use cape_io::{Failed, Sink, SureSink, SureSource};
 use command_words::Workload;
 use elf_load::load;
 use machine::{Machine, Step};
-use report_texts::{report_line, write_line};
+use report_texts::write_line;
 use run_texts::bench_line;
 use std::alloc::{AllocError, Global};
 use vtype_cfg::Policy;
@@ -67,7 +61,8 @@ fn machine_for(alloc: Global, workload: Workload) -> Result<Machine, AllocError>
 // The machine of a workload after its last step. It has no input, and what it writes is dropped.
 fn run_workload(alloc: Global, workload: Workload) -> Result<Machine, AllocError>
     requires { IsWorkloadInRange workload }
-    ensures { IfOk result (IsAt (workload_reached workload)) }
+    ensures reaches { IfOk result (IsAt (workload_reached workload)) }
+    ensures exits { IfOk result (HasExited workload) }
 {
     let mut machine = machine_for(alloc, workload)?;
     let mut input = SureSource::new(alloc, &[], 1)?;
@@ -80,73 +75,58 @@ fn run_workload(alloc: Global, workload: Workload) -> Result<Machine, AllocError
     }
 }
 
-// How the machine answers as it stands.
-fn answer_of(machine: &Machine) -> Step
-    ensures { result ≡ step_for machine.now.core.mode }
+// The code of a machine that has exited.
+fn code_of(machine: &Machine) -> u8
+    requires { machine.now.core.mode ≡ Exited (exit_code machine.now.core.regs) }
+    ensures { result ≡ exit_code machine.now.core.regs }
 {
-    machine.halted().unwrap_or(Step::Ran)
+    match machine.halted() {
+        Some(Step::Exited(code)) => code,
+        // It has no other mode.
+        _ => unreachable!(),
+    }
 }
 
-// Writes the line about the run of a workload that exited.
-fn write_run<O: Sink>(
-    machine: &Machine,
-    workload: Workload,
-    code: u8,
-    out: &mut O,
-) -> Result<(), Failed>
-    ensures { Writes O.Sink (bench_text workload code machine.now) (is_ok result) out.old out.new }
+// Writes the line about the run of a workload.
+fn write_run<O: Sink>(machine: &Machine, workload: Workload, out: &mut O) -> Result<(), Failed>
+    requires { HasExited workload machine.now }
+    ensures { Writes O.Sink (run_text workload machine.now) (is_ok result) out.old out.new }
 {
     let line = bench_line(
         workload.seed,
         workload.size,
-        code,
+        code_of(machine),
         machine.retired(),
         machine.counts(),
     );
     write_line(&line, out)
 }
 
-// Writes the report line of a workload that did not exit.
-fn write_other<E: Sink>(machine: &Machine, answer: Step, err: &mut E) -> Status
-    ensures only { (result ≡ status_of_answer answer) ⊎ (result ≡ Status.WriteFault) }
-    ensures said { result ≡ status_of_answer answer → Writes E.Sink (line_of answer machine.now.core.csrs.retired) true err.old err.new }
-    ensures fails { result ≡ Status.WriteFault → Writes E.Sink (line_of answer machine.now.core.csrs.retired) false err.old err.new }
-{
-    match write_line(&report_line(answer, machine.retired()), err) {
-        Ok(()) => status_for(answer),
-        Err(_) => Status::WriteFault,
-    }
-}
-
-/// Runs a workload. Where it exits, the line about the run is written to the output and the machine is kept; else the
-/// report line is written to the error output.
-pub(crate) fn bench<O: Sink, E: Sink>(
+/// Runs a workload. The line about the run is written to the output, and the machine is kept.
+pub(crate) fn bench<O: Sink>(
     alloc: Global,
     workload: Workload,
     out: &mut O,
-    err: &mut E,
     kept: &mut Option<Machine>,
 ) -> Status
     requires range { IsWorkloadInRange workload }
     requires none { kept.old ≡ None }
-    ensures ends { BenchEnds workload (sinks O.Sink E.Sink out.old out.new err.old err.new) result kept.new }
-    ensures only { (IsOfRun result ⊎ (result ≡ Status.Done)) ⊎ ((result ≡ Status.WriteFault) ⊎ (result ≡ Status.NoMemory)) }
+    ensures only { (result ≡ Status.Done) ⊎ ((result ≡ Status.WriteFault) ⊎ (result ≡ Status.NoMemory)) }
+    ensures said { result ≡ Status.Done → Writes O.Sink (bench_text workload (workload_reached workload)) true out.old out.new }
+    ensures fails { result ≡ Status.WriteFault → Writes O.Sink (bench_text workload (workload_reached workload)) false out.old out.new }
+    ensures lacks { result ≡ Status.NoMemory → out.new ≡ out.old }
+    ensures holds { result ≡ Status.Done → Keeps (Some (workload_reached workload)) kept.new }
     ensures keeps { (result ≡ Status.Done) ⊎ (kept.new ≡ None) }
-    ensures write { result ≡ Status.WriteFault → Rose (O.faults out.old) (O.faults out.new) ⊎ Rose (E.faults err.old) (E.faults err.new) }
 {
     let machine = match run_workload(alloc, workload) {
         Ok(machine) => machine,
         Err(_) => return Status::NoMemory,
     };
-    let answer = answer_of(&machine);
-    match answer {
-        Step::Exited(code) => match write_run(&machine, workload, code, out) {
-            Ok(()) => {
-                *kept = Some(machine);
-                Status::Done
-            }
-            Err(_) => Status::WriteFault,
-        },
-        Step::Ran | Step::Trapped(_) => write_other(&machine, answer, err),
+    match write_run(&machine, workload, out) {
+        Ok(()) => {
+            *kept = Some(machine);
+            Status::Done
+        }
+        Err(_) => Status::WriteFault,
     }
 }

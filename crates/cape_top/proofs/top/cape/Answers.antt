@@ -3,12 +3,12 @@ use Rattle.command_words.specs.Help.{help_text}
 use Rattle.command_words.specs.declared.words.Command.TheVariants.{OnImage, Debug, Gen, Bench, Help}
 use Rattle.rvv_meaning.specs.Texts.{usage_line}
 use Rattle.work_gen.specs.Images.{workload}
-use Rattle.cape_io.specs.Views.{source_view}
 use Rattle.cape_top.specs.declared.ending.Status.TheVariants.{Done, Usage}
 use Rattle.cape_top.specs.Calls.{call}
 use Rattle.cape_top.specs.Promises.{words_of}
 use Rattle.cape_top.proofs.CallLemmas.{ends_for, ends_in_usage, ends_of_debug}
-use Rattle.cape_top.proofs.CauseLemmas.{bench_apart, cause_apart, cause_of_debug, cause_on_image, cause_usage, made_apart, made_runs, text_apart, text_memory, text_runs}
+use Rattle.cape_top.proofs.BenchLemmas.{bench_ends}
+use Rattle.cape_top.proofs.CauseLemmas.{cause_apart, cause_of_debug, cause_on_image, cause_usage, made_apart, made_runs, text_apart, text_memory, text_runs}
 use Rattle.cape_top.proofs.TopLemmas.{makes_out, writes_err, writes_out}
 use Rattle.cape_top.proofs.top.cape.Goals as goal
 
@@ -65,17 +65,21 @@ returns-in-Some-Gen-clause-cause g c =
 pub returns-in-Some-Bench-clause-ends : goal.returns-in-Some-Bench-clause-ends
 returns-in-Some-Bench-clause-ends g c =
     let words = words_of c.args.words.now in
-    let d = call g.F.Files g.S.Source g.O.Sink g.E.Sink c.args.files.now c.args.files.now c.args.input.now c.args.input.now c.args.out.now c.bench.new.out c.args.err.now c.bench.new.err in
+    let d = call g.F.Files g.S.Source g.O.Sink g.E.Sink c.args.files.now c.args.files.now c.args.input.now c.args.input.now c.args.out.now c.bench.new.out c.args.err.now c.args.err.now in
     let found = sym c.command_of.ensures.command ∙ c.in-Some-Bench.is ∙ ap Some c.in-Some-Bench.field-0-is in
     ends_for words d c.bench.result c.bench.new.kept (Bench c.in-Some-Bench.workload) found c.requires.words
-    (c.bench.ensures.ends (source_view g.S.Source c.args.input.now)) c.bench.ensures.keeps
+    (bench_ends g.S.Source g.O.Sink g.E.Sink c.in-Some-Bench.workload c.bench.result c.bench.new.kept c.args.input.now c.args.out.now c.bench.new.out c.args.err.now
+    c.bench.ensures.only c.bench.ensures.said c.bench.ensures.fails c.bench.ensures.lacks c.bench.ensures.holds)
+    c.bench.ensures.keeps
 
 pub returns-in-Some-Bench-clause-cause : goal.returns-in-Some-Bench-clause-cause
 returns-in-Some-Bench-clause-cause g c =
     let words = words_of c.args.words.now in
-    let d = call g.F.Files g.S.Source g.O.Sink g.E.Sink c.args.files.now c.args.files.now c.args.input.now c.args.input.now c.args.out.now c.bench.new.out c.args.err.now c.bench.new.err in
+    let d = call g.F.Files g.S.Source g.O.Sink g.E.Sink c.args.files.now c.args.files.now c.args.input.now c.args.input.now c.args.out.now c.bench.new.out c.args.err.now c.args.err.now in
     let found = sym c.command_of.ensures.command ∙ c.in-Some-Bench.is ∙ ap Some c.in-Some-Bench.field-0-is in
-    cause_apart words d (Bench c.in-Some-Bench.workload) c.bench.result found (λ on. on) tt (λ run. tt) (bench_apart _ c.bench.ensures.only) (λ lacks. tt) c.bench.ensures.write
+    let ensured = c.bench.ensures in
+    cause_apart words d (Bench c.in-Some-Bench.workload) c.bench.result found (λ on. on) tt (made_runs _ ensured.only) (made_apart _ ensured.only) (λ lacks. tt)
+    (λ is. inl ((ensured.fails is).counts))
 
 pub returns-in-Some-Help-clause-ends : goal.returns-in-Some-Help-clause-ends
 returns-in-Some-Help-clause-ends g c =
