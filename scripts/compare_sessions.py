@@ -32,7 +32,6 @@ EDGES = [0x0000FFF0, 0x00010000, CODE, 0x00010FF8, 0x00011000, 0x01010FF8, 0x7FE
 FUNCT6 = [0, 2, 9, 11, 37, 24]
 NAMES = ["step", "cont", "break", "regs", "vregs", "vcsr", "mem", "slice", "tags", "micro", "ustep", "map", "quit"]
 EXAMPLES = os.path.join(os.path.dirname(__file__), "..", "examples", "images")
-REAL_STEPS = 100000
 
 
 def memory_word(rng):
@@ -250,15 +249,6 @@ def ran(program, words, commands):
     return done.stdout, done.stderr, done.returncode
 
 
-def is_unbuilt(cape, case):
-    """Whether the program comes to an instruction that is not built."""
-    options = [word for word in case.options]
-    if "--input" in options:
-        at = options.index("--input")
-        options[at:at + 2] = []
-    return b"cape: unbuilt" in ran(cape, ["run", case.path, "--steps", str(REAL_STEPS), *options], b"")[1]
-
-
 def told_difference(ours, theirs):
     for name, a, b in zip(["out", "err"], ours, theirs):
         if a != b:
@@ -277,12 +267,10 @@ def kinds_of(answers):
 
 
 def compared(arguments):
-    """The seed; None where its session is the same, else what differs, or that it is left out; and its answers by their kind."""
+    """The seed; None where its session is the same, else what differs; and its answers by their kind."""
     cape, model, folder, corpus, seed = arguments
     case = Case(corpus, seed, folder)
     try:
-        if is_unbuilt(cape, case):
-            return seed, "unbuilt", {}
         words = ["debug", case.path, *case.options]
         ours, theirs = ran(cape, words, case.commands), ran(model, words, case.commands)
     finally:
@@ -294,14 +282,13 @@ def compare(cape, model, folder, corpus, first, last):
     seeds = range(int(first), int(last) + 1)
     with multiprocessing.Pool(2) as pool:
         results = pool.map(compared, [(cape, model, folder, corpus, seed) for seed in seeds], chunksize=4)
-    different = [(seed, what) for seed, what, _ in results if what not in (None, "unbuilt")]
+    different = [(seed, what) for seed, what, _ in results if what is not None]
     for seed, what in different[:TOLD]:
         print(f"differs: seed {seed}: {what}")
     kinds = sum((collections.Counter(kinds) for _, _, kinds in results), collections.Counter())
     print("answers: " + ", ".join(f"{count} {kind}" for kind, count in kinds.most_common() if not is_register(kind)))
     same = sum(what is None for _, what, _ in results)
-    left_out = sum(what == "unbuilt" for _, what, _ in results)
-    print(f"sessions: {same} the same, {len(different)} different, {left_out} left out")
+    print(f"sessions: {same} the same, {len(different)} different")
     sys.exit(1 if different else 0)
 
 

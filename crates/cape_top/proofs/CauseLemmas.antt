@@ -9,7 +9,7 @@ use Rattle.command_words.specs.declared.words.DebugOptions.{DebugOptions}
 use Rattle.command_words.specs.declared.words.ImageCommand.{ImageCommand}
 use Rattle.command_words.specs.declared.words.ImageCommand.TheVariants.{Check}
 use Rattle.cape_top.specs.declared.ending.Status.{Status}
-use Rattle.cape_top.specs.declared.ending.Status.TheVariants.{Done, StepLimit, Refused, Usage, ReadFault, WriteFault, NoMemory, Exited as ExitedWith, Trapped as HasTrapped, Unbuilt as NotBuilt}
+use Rattle.cape_top.specs.declared.ending.Status.TheVariants.{Done, StepLimit, Refused, Usage, ReadFault, WriteFault, NoMemory, Exited as ExitedWith, Trapped as HasTrapped}
 use Rattle.cape_top.specs.Debugging.{DebugReadFails, FileFails, IsOfDebug}
 use Rattle.cape_top.specs.Statuses.{IsEnded, IsFault, IsOfRun, IsRefused}
 use Rattle.cape_top.specs.Calls.{Call, HasNoFault, InputRose, SinkRose, known_at}
@@ -30,7 +30,6 @@ run_apart : (s : Status) → IsOfRun s → IsApart s
 run_apart (ExitedWith c) run = tt
 run_apart HasTrapped run = tt
 run_apart StepLimit run = tt
-run_apart NotBuilt run = tt
 run_apart Done run = tt
 run_apart (Refused f) run = run
 run_apart Usage run = run

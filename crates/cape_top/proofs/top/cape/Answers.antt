@@ -7,7 +7,7 @@ use Rattle.cape_io.specs.Views.{source_view}
 use Rattle.cape_top.specs.declared.ending.Status.TheVariants.{Done, Usage}
 use Rattle.cape_top.specs.Calls.{call}
 use Rattle.cape_top.specs.Promises.{words_of}
-use Rattle.cape_top.proofs.CallLemmas.{ends_for, ends_in_usage}
+use Rattle.cape_top.proofs.CallLemmas.{ends_for, ends_in_usage, ends_of_debug}
 use Rattle.cape_top.proofs.CauseLemmas.{bench_apart, cause_apart, cause_of_debug, cause_on_image, cause_usage, made_apart, made_runs, text_apart, text_memory, text_runs}
 use Rattle.cape_top.proofs.TopLemmas.{makes_out, writes_err, writes_out}
 use Rattle.cape_top.proofs.top.cape.Goals as goal
@@ -32,8 +32,7 @@ returns-in-Some-Debug-clause-ends g c =
     let words = words_of c.args.words.now in
     let d = call g.F.Files g.S.Source g.O.Sink g.E.Sink c.args.files.now c.debug.new.files c.args.input.now c.debug.new.input c.args.out.now c.debug.new.out c.args.err.now c.debug.new.err in
     let found = sym c.command_of.ensures.command ∙ c.in-Some-Debug.is ∙ ap Some c.in-Some-Debug.field-0-is in
-    ends_for words d c.debug.result c.args.kept.now (Debug c.in-Some-Debug.options) found c.requires.words
-    (rw c.requires.none c.debug.ensures.ends) (inr c.requires.none)
+    ends_of_debug words d c.debug.result c.args.kept.now c.in-Some-Debug.options found c.requires.words c.debug.ensures.ends c.requires.none
 
 pub returns-in-Some-Debug-clause-cause : goal.returns-in-Some-Debug-clause-cause
 returns-in-Some-Debug-clause-cause g c =
