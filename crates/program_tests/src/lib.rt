@@ -26,6 +26,10 @@ mod planned;
 #[cfg(test)]
 mod plans;
 #[cfg(test)]
+mod reductions;
+#[cfg(test)]
 mod resumptions;
 #[cfg(test)]
 mod runs;
+#[cfg(test)]
+mod slides;

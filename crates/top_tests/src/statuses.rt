@@ -9,7 +9,7 @@ struct Row {
     code: u8,
 }
 
-const ROWS: [Row; 10] = [
+const ROWS: [Row; 9] = [
     Row {
         status: Status::Done,
         code: 0,

@@ -38,7 +38,7 @@ unfolding number_at
 word-number n fits = omega arith
 
 -- the program header
-abbrev segment : ℕ → Header
+abbrev pub segment : ℕ → Header
 segment size = record { kind = 1; offset = 0; vaddr = base; filesz = size; memsz = size; flags = 5 }
 
 header-is : (words : List ℕ) → image_size (length words) < 2 ^ 32 → header_at (image_of words) 0 ≡ segment (image_size (length words))
@@ -50,19 +50,19 @@ unfolding headers image_of number_at
 headers-are words fits = ap (λ h. h ∷ []) (header-is words fits)
 
 -- a range meets the pages from its first to its last, and no other
-meets-before : (page : ℕ) (s : Span) → page < first_page s → meets page s ≡ false
+pub meets-before : (page : ℕ) (s : Span) → page < first_page s → meets page s ≡ false
 meets-before page s low = grind (arith, nat_tests)
 
-meets-past : (page : ℕ) (s : Span) → last_page s < page → meets page s ≡ false
+pub meets-past : (page : ℕ) (s : Span) → last_page s < page → meets page s ≡ false
 meets-past page s high = grind (arith, nat_tests)
 
-meets-within : (page : ℕ) (s : Span) → 0 < s.len → first_page s ≤ page → page ≤ last_page s → meets page s ≡ true
+pub meets-within : (page : ℕ) (s : Span) → 0 < s.len → first_page s ≤ page → page ≤ last_page s → meets page s ≡ true
 meets-within page s some low high = grind (arith, nat_tests)
 
 -- what is laid out of a segment of so many bytes
 module _ (size : ℕ) (some : 84 ≤ size) (few : size ≤ 84 + 2 ^ 24)
   where
-    heap_from-is : start_after (segment size ∷ []) ≡ (base + size + 4095) / 4096 * 4096
+    pub heap_from-is : start_after (segment size ∷ []) ≡ (base + size + 4095) / 4096 * 4096
     unfolding start_after highest_end
     heap_from-is = let e : max (base + size) 0 ≡ base + size = omega arith in rw e refl
 
@@ -125,7 +125,7 @@ module _ (words : List ℕ) (some : 1 ≤ length words) (few : length words ≤ 
     small : size < 2 ^ 32
     small = omega arith
 
-    segments-are : segments (image_of words) ≡ segment size ∷ []
+    pub segments-are : segments (image_of words) ≡ segment size ∷ []
     unfolding segments
     segments-are =
         let is : nat_lt 0 size ≡ true = lt-ltb 0 size (omega arith) in

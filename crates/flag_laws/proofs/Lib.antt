@@ -1,0 +1,2 @@
+-- The operations of a table step leave the control numbers.
+pub mod Tables
