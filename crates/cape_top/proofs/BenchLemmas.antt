@@ -1,5 +1,5 @@
 -- How a bench ends, by the machine of its workload.
-use Rattle.std.proofs.Common.{◌≡◌, ◌⊎◌, inl, inr, ℕ, ◌/◌, List, [], Option, Some, None, Result, Ok, Err, IfOk, true, false, refl, sym, ap, ◌∙◌, subst, arith}
+use Rattle.std.proofs.Common.{◌≡◌, ◌≤◌, ◌⊎◌, inl, inr, ℕ, ◌/◌, List, [], Option, Some, None, Result, Ok, Err, IfOk, true, false, refl, sym, ap, ◌∙◌, subst, arith}
 use Rattle.std.specs.Prelude.{◌==◌, ◌||◌, ⊤, Bool, MatchBool, unwrap_or}
 use Rattle.bit_rows.specs.Slices.{blank}
 use Rattle.cam_chain.specs.ChainValue.{no_counts, slices_of}
@@ -92,7 +92,7 @@ workload_exited w machine range at =
     let past : instructions w.size ≤ default_steps = omega (arith, range.most) in
     record {
       mode = rw at.core (e.exits default_steps past);
-      retired = rw at.core ((e.quiet default_steps past).retired);
+      retired = rw at.core ((e.quiet default_steps past).retired ∙ omega arith);
     }
 
 -- so the line about its run is that of what the run reaches
