@@ -19,8 +19,6 @@ from guest import load
 from whole_words import Words
 
 NARROW = [32, 64, 128, 256, 1024]
-# The line of a run that comes to an instruction that is not built: such a program is counted apart.
-UNBUILT = "cape: unbuilt"
 
 
 class Memory(compare_memory.Program):
@@ -97,8 +95,6 @@ def compared(job):
     ours = told_by(cape, path, program.options, {}, digits_of)
     report = next((line for line in theirs if line.startswith("cape: ")), "cape: none")
     end = "exited" if report.startswith("cape: exited") else " ".join(report.split()[1:3])
-    if UNBUILT in ours:
-        return seed, "not built", " ".join(program.options), None
     return seed, end, " ".join(program.options), None if ours == theirs else first_difference(ours, theirs)
 
 

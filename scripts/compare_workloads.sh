@@ -1,7 +1,7 @@
 #!/usr/bin/env bash
 # Compares `cape gen`, `cape bench` and `cape help` with the executable model: outputs, error outputs and statuses, for drawn
-# seeds and sizes, the least and the greatest among them. A bench that comes to an instruction that is not built is counted
-# apart. Skips where the model is missing.
+# seeds and sizes, the least and the greatest among them. Skips where the model
+# is missing.
 #   scripts/compare_workloads.sh [CAPE] [WORKLOADS]
 #     CAPE       the built program, crates/cape/out/cape by default
 #     WORKLOADS  how many, 200 by default
@@ -39,7 +39,6 @@ print(f"{seed} {size:0{rng.choice([1, 20])}}")' "$1" "$2"
 }
 
 differ=0
-unbuilt=0
 workloads=${2:-200}
 same help || { differ=$((differ + 1)); echo "differs: help"; }
 for ((number = 0; number < workloads; number++)); do
@@ -47,17 +46,13 @@ for ((number = 0; number < workloads; number++)); do
     same gen "$seed" "$size" || { differ=$((differ + 1)); echo "differs: gen $seed $size"; }
     read -r seed size < <(drawn "$number" 64)
     if ! same bench "$seed" "$size"; then
-        if grep -q '^cape: unbuilt$' "$work/ours.err"; then
-            unbuilt=$((unbuilt + 1))
-        else
-            differ=$((differ + 1))
-            echo "differs: bench $seed $size"
-        fi
+        differ=$((differ + 1))
+        echo "differs: bench $seed $size"
     fi
 done
 for words in "gen 1 0" "gen 1 4097" "gen 18446744073709551616 1" "gen 1" "gen 1 1 1" "bench 1 0" "bench -1 1" "bench" "help me"; do
     # shellcheck disable=SC2086
     same $words || { differ=$((differ + 1)); echo "differs: $words"; }
 done
-echo "$workloads workloads, $unbuilt benches not built, $differ differences"
+echo "$workloads workloads, $differ differences"
 [ "$differ" -eq 0 ]

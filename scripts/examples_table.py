@@ -16,7 +16,6 @@ EXAMPLES = TOP / "examples"
 CASES = TOP / "crates" / "cape_cases" / "stdin"
 # The example that is a case.
 STORED = "saxpy"
-UNBUILT = "cape: unbuilt\n"
 VLENS = [128, 1024]
 HEAD = "| Example | VLEN | status | retired | searches | updates | passes |\n|---|---|---|---|---|---|---|\n"
 # What the error output of a run ends with.
@@ -28,12 +27,10 @@ SAME = b"same\n"
 
 
 def report_of(runner, image, vlen):
-    """The line of the table, or None where the image comes to an instruction that is not built."""
+    """The line of the table."""
     words = [runner, "run", str(image), "--vlen", str(vlen), "--counts"]
     run = subprocess.run(words, capture_output=True, timeout=600)
     errors = run.stderr.decode(errors="replace")
-    if errors == UNBUILT:
-        return None
     report = REPORT.fullmatch(errors)
     if report is None:
         sys.exit(f"{image.name} at VLEN {vlen}: {errors.strip()}")
@@ -69,16 +66,14 @@ def is_stored():
 
 
 def compare(lines):
-    """Compares the lines of images that were run to their ends."""
+    """Compares the lines of the images."""
     table = (EXAMPLES / "README.md").read_text()
-    other = [name for name, line in lines.items() if line is not None and line not in table]
-    unbuilt = sorted({name for (name, _), line in lines.items() if line is None})
+    other = [name for name, line in lines.items() if line not in table]
     for name, vlen in other:
         print(f"{name} at VLEN {vlen} has another line in the table")
     if not is_stored():
         print(f"the case of {STORED} has another image")
-    run = sum(line is not None for line in lines.values())
-    print(f"{run - len(other)} lines of the table the same, {len(other)} different; not built: {' '.join(unbuilt) or 'none'}")
+    print(f"{len(lines) - len(other)} lines of the table the same, {len(other)} different")
     return 1 if other or not is_stored() else 0
 
 
@@ -89,9 +84,6 @@ def main(words):
     lines = lines_of(words[1])
     if words[0] == "compare":
         return compare(lines)
-    if None in lines.values():
-        print("some images come to instructions that are not built")
-        return 1
     print(HEAD + "".join(lines.values()), end="")
     return 0
 

@@ -1,6 +1,5 @@
 #!/usr/bin/env bash
-# Makes the table of examples/README.md by running the images of examples/images, or compares it with the runs. A comparison
-# leaves out the images that come to an instruction that is not built, and tells them; a table is made of all.
+# Makes the table of examples/README.md by running the images of examples/images, or compares it with the runs.
 #   scripts/examples_table.sh [make|compare] [RUNNER]
 #     compare by default; RUNNER: a program with the command line of `cape`, crates/cape/out/cape by default
 source "$(dirname "$0")/common.sh"

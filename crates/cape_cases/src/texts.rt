@@ -22,7 +22,6 @@ fn name_of(status: Status) -> &'static str {
         Status::ReadFault => "read fault",
         Status::WriteFault => "write fault",
         Status::NoMemory => "no memory",
-        Status::Unbuilt => "unbuilt",
     }
 }
 

@@ -13,7 +13,7 @@ use Rattle.vtype_cfg.specs.declared.configuration.Policy.TheVariants.{Keep}
 use Rattle.rvv_meaning.specs.Images.{start_core, start_state}
 use Rattle.rvv_meaning.specs.States.{State}
 use Rattle.rvv_meaning.specs.declared.Mode.{Mode}
-use Rattle.rvv_meaning.specs.declared.Mode.TheVariants.{Running, Exited as HasExited, Trapped as HasTrapped, Unbuilt as IsUnbuilt}
+use Rattle.rvv_meaning.specs.declared.Mode.TheVariants.{Running, Exited as HasExited, Trapped as HasTrapped}
 use Rattle.guest_mem.specs.declared.faults.Trap.{Trap}
 use Rattle.machine.specs.Answers.{halt_of, step_for}
 use Rattle.machine.specs.Carrying.{OneFault}
@@ -23,7 +23,7 @@ use Rattle.machine.specs.Views.{GoesBy}
 use Rattle.machine.specs.declared.answers.DeviceFault.{DeviceFault}
 use Rattle.machine.specs.declared.answers.DeviceFault.TheVariants.{ReadFault, WriteFault}
 use Rattle.machine.specs.declared.answers.Step.{Step}
-use Rattle.machine.specs.declared.answers.Step.TheVariants.{Ran, Exited, Trapped, Unbuilt}
+use Rattle.machine.specs.declared.answers.Step.TheVariants.{Ran, Exited, Trapped}
 use Rattle.machine.proofs.Carried.{appends_none}
 use Rattle.machine.proofs.Runs.{state_run}
 use Rattle.report_texts.specs.Lines.{line_of}
@@ -94,7 +94,6 @@ pub answer_is : (mode : Mode) → unwrap_or (halt_of mode) Ran ≡ step_for mode
 answer_is Running = refl
 answer_is (HasExited c) = refl
 answer_is (HasTrapped t) = refl
-answer_is IsUnbuilt = refl
 
 -- an answer that is no exit
 abbrev pub IsOther : Step → Type 0
@@ -106,12 +105,10 @@ other_ends : (w : Workload) (k : Kept) (left : Option (List ℕ)) (mode : Mode) 
 other_ends w k left Running is other = rw is refl
 other_ends w k left (HasExited c) is other = absurd other
 other_ends w k left (HasTrapped t) is other = rw is refl
-other_ends w k left IsUnbuilt is other = rw is refl
 
-pub other_of : (a : Step) → (a ≡ Ran) ⊎ (((t : Trap) × (a ≡ Trapped t)) ⊎ (a ≡ Unbuilt)) → IsOther a
+pub other_of : (a : Step) → (a ≡ Ran) ⊎ ((t : Trap) × (a ≡ Trapped t)) → IsOther a
 other_of a (inl is) = rw is tt
-other_of a (inr (inl (t, is))) = rw is tt
-other_of a (inr (inr is)) = rw is tt
+other_of a (inr (t, is)) = rw is tt
 
 pub other_runs : (a : Step) (s : Status) → (s ≡ status_for a) ⊎ (s ≡ CannotWrite) → (IsOfRun s ⊎ (s ≡ Done)) ⊎ ((s ≡ CannotWrite) ⊎ (s ≡ NoMemory))
 other_runs a s (inl is) = inl (inl (rw is (run_of_answer a)))

@@ -8,7 +8,7 @@ use Rattle.command_words.specs.declared.words.Command.TheVariants.{OnImage}
 use Rattle.command_words.specs.declared.words.ImageCommand.{ImageCommand}
 use Rattle.command_words.specs.declared.words.ImageCommand.TheVariants.{Check}
 use Rattle.cape_top.specs.declared.ending.Status.{Status}
-use Rattle.cape_top.specs.declared.ending.Status.TheVariants.{Done, StepLimit, Refused, Usage, ReadFault, WriteFault, NoMemory, Exited as ExitedWith, Trapped as HasTrapped, Unbuilt as NotBuilt}
+use Rattle.cape_top.specs.declared.ending.Status.TheVariants.{Done, StepLimit, Refused, Usage, ReadFault, WriteFault, NoMemory, Exited as ExitedWith, Trapped as HasTrapped}
 use Rattle.cape_top.specs.Statuses.{IsEnded, IsOfRun, IsRefused}
 use Rattle.cape_top.specs.Calls.{Call, HasNoFault, InputRose, SinkRose, known_at}
 use Rattle.cape_top.specs.Promises.{HasCause, ImageReadFails, IsDone, RunsGuest, RunsImage, TakesMemory, operand}
@@ -28,7 +28,6 @@ run_apart : (s : Status) → IsOfRun s → IsApart s
 run_apart (ExitedWith c) run = tt
 run_apart HasTrapped run = tt
 run_apart StepLimit run = tt
-run_apart NotBuilt run = tt
 run_apart Done run = tt
 run_apart (Refused f) run = run
 run_apart Usage run = run

@@ -6,11 +6,11 @@ use Rattle.cape_io.specs.Devices.{AppendsPrefix}
 use Rattle.cam_chain.specs.ChainValue.{slices_of}
 use Rattle.elf_load.specs.declared.loaded.Loaded.{Loaded}
 use Rattle.rvv_meaning.specs.declared.Mode.{Mode}
-use Rattle.rvv_meaning.specs.declared.Mode.TheVariants.{Running, Exited, Trapped, Unbuilt}
+use Rattle.rvv_meaning.specs.declared.Mode.TheVariants.{Running, Exited, Trapped}
 use Rattle.rvv_meaning.specs.States.{State, run}
 use Rattle.rvv_meaning.specs.Texts.{report, report_at}
 use Rattle.machine.specs.declared.answers.Step.{Step}
-use Rattle.machine.specs.declared.answers.Step.TheVariants.{Ran, Exited as SaysExited, Trapped as SaysTrapped, Unbuilt as SaysUnbuilt}
+use Rattle.machine.specs.declared.answers.Step.TheVariants.{Ran, Exited as SaysExited, Trapped as SaysTrapped}
 use Rattle.machine.specs.Answers.{step_for}
 use Rattle.machine.specs.Moments.{Held, Moment, moments, first_moment, counts_after, slices_after}
 use Rattle.machine.specs.Views.{GoesBy, FaultsIn, ReadsIn}
@@ -22,7 +22,7 @@ use Rattle.cape_top.specs.declared.ending.Status.{Status}
 use Rattle.cape_top.specs.declared.ending.Status.TheVariants.{NoMemory}
 use Rattle.cape_top.specs.Statuses.{IsOfRun, IsFault}
 use Rattle.cape_io.specs.Views.{DeviceViews, Devices, SinkView}
-use Rattle.cape_top.specs.Endings.{Ending, Ends, EndsBy, IsAt, Keeps, Kept, ReadsWithin, WritesPrefixes, ending_at, ending_from, kept_after, shown_after, status_for}
+use Rattle.cape_top.specs.Endings.{Ending, Ends, EndsBy, IsAt, Keeps, Kept, ReadsWithin, WritesPrefixes, ending_at, ending_from, shown_text, status_for}
 use Rattle.cape_top.specs.Runs.{LoadedEnds, LoadedReads, MachineEnds, MachineReads, ShowsFirst, end_of, loaded_start, moment_ending}
 use Rattle.cape_top.proofs.StatusLemmas.{ends_so, ends_in_fault, run_ended, run_of_answer}
 
@@ -30,13 +30,6 @@ pub line_is_report : (mode : Mode) (n : ℕ) → line_of (step_for mode) n ≡ r
 line_is_report Running n = refl
 line_is_report (Exited c) n = refl
 line_is_report (Trapped t) n = refl
-line_is_report Unbuilt n = refl
-
-keeps_held : (a : Step) (k : Kept) (machine : Held) → IsAt k machine → Keeps (kept_after a k) (kept_after a machine)
-keeps_held Ran k machine is = is
-keeps_held (SaysExited c) k machine is = is
-keeps_held (SaysTrapped t) k machine is = is
-keeps_held SaysUnbuilt k machine is = refl
 
 -- how a run ends, stated on the state of the last moment
 abbrev last_ending : RunOptions → Moment → Ending
@@ -50,7 +43,7 @@ ending_run options m =
 -- the text at the end is that of the last moment
 end_is_report : (options : RunOptions) (machine : Held) (a : Step) (m : Moment) → m.state.core ≡ machine.core → m.slices ≡ slices_of machine.chain → m.counts ≡ machine.chain.counts
     → a ≡ step_for machine.core.mode
-    → end_of a options machine ≡ report m.state ++ shown_after (step_for m.state.core.mode) options m.state.core m.counts m.slices
+    → end_of a options machine ≡ report m.state ++ shown_text options m.state.core m.counts m.slices
 end_is_report options machine a m holds slices counts answered =
     rw (answered, holds, slices, counts, line_is_report machine.core.mode machine.core.csrs.retired) refl
 
@@ -64,21 +57,21 @@ module _ (options : RunOptions) (machine machine' : Held) (v v' : DeviceViews) (
     (answered : answer ≡ step_for machine'.core.mode)
   where
     ended_by : Appends v'.err.held err.held (end_of answer options machine') → (m : Moment) → ShowsFirst m machine v
-        → EndsBy (status_for answer) (kept_after answer machine') (with_report v v' err) (moment_ending options m)
+        → EndsBy (status_for answer) (Some machine') (with_report v v' err) (moment_ending options m)
     ended_by put m shows =
         let t = goes m v shows in
         let s = (moments m options.steps).state in
         let text = end_is_report options machine' answer (moments m options.steps) t.holds t.slices t.counts answered in
         rw (ending_run options m) record {
           status_is = rw (answered, t.holds) refl;
-          keeps = rw (answered, t.holds) (keeps_held (step_for machine'.core.mode) _ machine' record { core = sym t.holds; slices = sym t.slices; counts = sym t.counts; live = live });
+          keeps = record { core = sym t.holds; slices = sym t.slices; counts = sym t.counts; live = live };
           leaves = t.known;
           gains_out = t.gained_out;
           gains_err = rw (← text) (appends_more v.err.held v'.err.held err.held s.errors (end_of answer options machine') t.gained_err put);
         }
 
     -- the end was written
-    pub machine_ended : (s : Status) (kept : Option Held) → s ≡ status_for answer → kept ≡ kept_after answer machine'
+    pub machine_ended : (s : Status) (kept : Option Held) → s ≡ status_for answer → kept ≡ Some machine'
         → Appends v'.err.held err.held (end_of answer options machine') → MachineEnds machine options (with_report v v' err) s kept
     machine_ended s kept is keeps put =
         λ m shows. rw (is, keeps) (ends_so _ (with_report v v' err) _ _ (run_ended _ (run_of_answer answer)) (ended_by put m shows))
@@ -110,7 +103,7 @@ run_prefixes options machine d faults m shows =
     let f = faults m d.old shows in
     let t = (moments m options.steps).state in
     let last = moments m options.steps in
-    let rest = report t ++ shown_after (step_for t.core.mode) options t.core last.counts last.slices in
+    let rest = report t ++ shown_text options t.core last.counts last.slices in
     rw (ending_run options m) record {
       gains_out = f.0;
       gains_err = (f.1.0, f.1.1, (f.1.2.0 ++ rest, rw f.1.2.1 (append_assoc f.1.0 f.1.2.0 rest)));

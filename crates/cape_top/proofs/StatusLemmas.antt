@@ -6,13 +6,13 @@ use Rattle.cape_io.specs.Devices.{AppendsPrefix}
 use Rattle.machine.specs.Moments.{Held}
 use Rattle.machine.specs.Views.{GainsPrefix}
 use Rattle.machine.specs.declared.answers.Step.{Step}
-use Rattle.machine.specs.declared.answers.Step.TheVariants.{Ran, Exited, Trapped, Unbuilt}
+use Rattle.machine.specs.declared.answers.Step.TheVariants.{Ran, Exited, Trapped}
 use Rattle.cape_top.specs.declared.ending.Status.{Status}
-use Rattle.cape_top.specs.declared.ending.Status.TheVariants.{Done, StepLimit, Refused, Usage, ReadFault, WriteFault, NoMemory, Exited as ExitedWith, Trapped as HasTrapped, Unbuilt as NotBuilt}
-use Rattle.cape_top.specs.Statuses.{IsEnded, IsFault, IsOfRun, KeepsMachine}
+use Rattle.cape_top.specs.declared.ending.Status.TheVariants.{Done, StepLimit, Refused, Usage, ReadFault, WriteFault, NoMemory, Exited as ExitedWith, Trapped as HasTrapped}
+use Rattle.cape_top.specs.Statuses.{IsEnded, IsFault, IsOfRun}
 use Rattle.cape_io.specs.Views.{Devices}
 use Rattle.cape_top.specs.Calls.{WritesNothing}
-use Rattle.cape_top.specs.Endings.{Ending, Ends, EndsBy, WritesPrefixes, kept_after, status_for}
+use Rattle.cape_top.specs.Endings.{Ending, Ends, EndsBy, WritesPrefixes, status_for}
 
 pub ended_no_fault : (s : Status) → IsEnded s → IsFault s → ⊥
 ended_no_fault ReadFault ended fault = ended
@@ -25,7 +25,6 @@ pub run_ended : (s : Status) → IsOfRun s → IsEnded s
 run_ended (ExitedWith c) run = tt
 run_ended HasTrapped run = tt
 run_ended StepLimit run = tt
-run_ended NotBuilt run = tt
 run_ended Done run = tt
 run_ended (Refused f) run = tt
 run_ended Usage run = tt
@@ -33,18 +32,11 @@ run_ended ReadFault run = run
 run_ended WriteFault run = run
 run_ended NoMemory run = run
 
--- an answer of the machine is the end of a run, and keeps the machine unless it met what is not built
+-- an answer of the machine is the end of a run, and keeps the machine
 pub run_of_answer : (a : Step) → IsOfRun (status_for a)
 run_of_answer Ran = tt
 run_of_answer (Exited c) = tt
 run_of_answer (Trapped t) = tt
-run_of_answer Unbuilt = tt
-
-pub kept_or_none : (a : Step) (machine : Held) → KeepsMachine (status_for a) ⊎ (kept_after a machine ≡ None)
-kept_or_none Ran machine = inl tt
-kept_or_none (Exited c) machine = inl tt
-kept_or_none (Trapped t) machine = inl tt
-kept_or_none Unbuilt machine = inr refl
 
 pub all_of : {A : Type 0} (o : Option A) (P : A → Type 0) → ((a : A) → P a) → IfSome o P
 all_of None P all = tt

@@ -17,7 +17,7 @@ use Rattle.machine.specs.Moments.{Held, counts_after, slices_after}
 use Rattle.machine.specs.Opening.{start}
 use Rattle.machine.specs.Views.{CallsAt, GainsPrefix}
 use Rattle.machine.specs.declared.answers.Step.{Step}
-use Rattle.machine.specs.declared.answers.Step.TheVariants.{Ran, Exited, Trapped, Unbuilt}
+use Rattle.machine.specs.declared.answers.Step.TheVariants.{Ran, Exited, Trapped}
 use Rattle.command_words.specs.Grammar.{default_steps, default_vlen}
 use Rattle.command_words.specs.Help.{help_text}
 use Rattle.command_words.specs.declared.words.Command.{Command}
@@ -27,7 +27,7 @@ use Rattle.command_words.specs.declared.words.ImageCommand.TheVariants.{Run, Che
 use Rattle.command_words.specs.declared.words.RunOptions.{RunOptions}
 use Rattle.command_words.specs.declared.words.Workload.{Workload}
 use Rattle.cape_top.specs.declared.ending.Status.{Status}
-use Rattle.cape_top.specs.declared.ending.Status.TheVariants.{Done, StepLimit, Refused, Usage, ReadFault, NoMemory, Exited as ExitedWith, Trapped as HasTrapped, Unbuilt as NotBuilt}
+use Rattle.cape_top.specs.declared.ending.Status.TheVariants.{Done, StepLimit, Refused, Usage, ReadFault, NoMemory, Exited as ExitedWith, Trapped as HasTrapped}
 use Rattle.cape_top.specs.Statuses.{IsEnded, IsFault}
 use Rattle.cape_io.specs.Views.{Devices}
 use Rattle.cape_top.specs.Calls.{WritesNothing}
@@ -44,12 +44,6 @@ abbrev pub status_for : Step → Status
 status_for Ran = StepLimit
 status_for (Exited c) = ExitedWith c
 status_for (Trapped t) = HasTrapped
-status_for Unbuilt = NotBuilt
-
--- what is kept after an answer: nothing after what is not built
-abbrev pub kept_after : {A : Type 0} → Step → A → Option A
-kept_after Unbuilt a = None
-kept_after _ a = Some a
 
 -- a text, if it is asked for
 abbrev pub text_if : Bool → List ℕ → List ℕ
@@ -60,14 +54,9 @@ abbrev pub shown_text : RunOptions → Core → Counts → Slices → List ℕ
 shown_text options c counts slices =
     text_if options.state (state_text c) ++ (text_if options.counts (counts_text c.csrs.retired counts) ++ text_if options.work (work_text slices))
 
--- nothing is shown after the line about what is not built
-abbrev pub shown_after : Step → RunOptions → Core → Counts → Slices → List ℕ
-shown_after Unbuilt options c counts slices = []
-shown_after _ options c counts slices = shown_text options c counts slices
-
 -- the text at the end of a run: the report line, and what is shown
 abbrev pub end_text : Step → RunOptions → Core → Counts → Slices → List ℕ
-end_text answer options c counts slices = line_of answer c.csrs.retired ++ shown_after answer options c counts slices
+end_text answer options c counts slices = line_of answer c.csrs.retired ++ shown_text options c counts slices
 
 -- what is kept of a run: its last state, the state of the slices in it, and the searches, updates and passes that it made
 pub record Kept : Type 0 where
@@ -102,10 +91,10 @@ ending_at options k =
     let answer = step_for s.core.mode in
     record {
       status = status_for answer;
-      kept = kept_after answer k;
+      kept = Some k;
       left = Some s.input;
       out = s.output;
-      err = s.errors ++ (report s ++ shown_after answer options s.core k.counts k.slices);
+      err = s.errors ++ (report s ++ shown_text options s.core k.counts k.slices);
     }
 
 -- what n steps from a state reach: the slices are those that the programs of the steps leave, and the counts are theirs

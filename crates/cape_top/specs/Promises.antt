@@ -15,7 +15,7 @@ use Rattle.machine.specs.Moments.{Held}
 use Rattle.cape_top.specs.declared.ending.Status.{Status}
 use Rattle.cape_top.specs.declared.ending.Status.TheVariants.{Done, Usage, ReadFault, WriteFault, NoMemory}
 use Rattle.cape_io.specs.Views.{Devices, SourceView}
-use Rattle.cape_top.specs.Statuses.{IsEnded, IsOfRun, IsRefused, KeepsMachine}
+use Rattle.cape_top.specs.Statuses.{IsEnded, IsOfRun, IsRefused}
 use Rattle.cape_top.specs.Calls.{Call, FailedOn, HasNoFault, InputRose, SinkRose, WritesNothing, known_at}
 use Rattle.cape_top.specs.Endings.{Ending, Ends, ReadsKnown, bench_ending, command_ending, file_ending, usage_ending}
 
@@ -51,7 +51,7 @@ BenchEnds w d status kept = (input : SourceView) → Ends (Some (bench_ending w 
 
 -- A command leaves a machine only with these statuses: a run where it came to its end, and a bench that is done.
 abbrev pub MayKeepOf : ImageCommand → Status → Type 0
-MayKeepOf (Run options) status = KeepsMachine status
+MayKeepOf (Run options) status = IsOfRun status
 MayKeepOf Check status = ⊥
 
 abbrev pub MayKeep : Command → Status → Type 0

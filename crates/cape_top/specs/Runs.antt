@@ -13,14 +13,11 @@ use Rattle.command_words.specs.declared.words.RunOptions.{RunOptions}
 use Rattle.command_words.specs.declared.words.Workload.{Workload}
 use Rattle.cape_top.specs.declared.ending.Status.{Status}
 use Rattle.cape_io.specs.Views.{DeviceViews, Devices}
-use Rattle.cape_top.specs.Endings.{Ending, Ends, ReadsWithin, ending_at, ending_from, end_text, shown_after, shown_text, workload_start}
+use Rattle.cape_top.specs.Endings.{Ending, Ends, ReadsWithin, ending_at, ending_from, end_text, shown_text, workload_start}
 
 -- what is shown of a machine, and the text at the end of its run
 abbrev pub shown_of : RunOptions → Held → List ℕ
 shown_of options machine = shown_text options machine.core machine.chain.counts (slices_of machine.chain)
-
-abbrev pub shown_of_after : Step → RunOptions → Held → List ℕ
-shown_of_after answer options machine = shown_after answer options machine.core machine.chain.counts (slices_of machine.chain)
 
 abbrev pub end_of : Step → RunOptions → Held → List ℕ
 end_of answer options machine = end_text answer options machine.core machine.chain.counts (slices_of machine.chain)

@@ -1,7 +1,7 @@
 -- The kinds of status.
 use Rattle.std.specs.Prelude.{⊤}
 use Rattle.cape_top.specs.declared.ending.Status.{Status}
-use Rattle.cape_top.specs.declared.ending.Status.TheVariants.{StepLimit, Refused, ReadFault, WriteFault, NoMemory, Exited, Trapped, Unbuilt}
+use Rattle.cape_top.specs.declared.ending.Status.TheVariants.{StepLimit, Refused, ReadFault, WriteFault, NoMemory, Exited, Trapped}
 
 -- A device failed.
 abbrev pub IsFault : Status → Type 0
@@ -21,13 +21,7 @@ abbrev pub IsOfRun : Status → Type 0
 IsOfRun (Exited c) = ⊤
 IsOfRun Trapped = ⊤
 IsOfRun StepLimit = ⊤
-IsOfRun Unbuilt = ⊤
 IsOfRun _ = ⊥
-
--- The machine of the run is kept.
-abbrev pub KeepsMachine : Status → Type 0
-KeepsMachine Unbuilt = ⊥
-KeepsMachine s = IsOfRun s
 
 -- The image has a fault.
 abbrev pub IsRefused : Status → Type 0

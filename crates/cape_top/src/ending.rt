@@ -7,8 +7,6 @@ use elf_load::LoadFault;
 // The statuses of the process that are no guest's code.
 const DONE: u8 = 0;
 
-const UNBUILT: u8 = 120;
-
 const TRAPPED: u8 = 121;
 
 const STEP_LIMIT: u8 = 122;
@@ -44,8 +42,6 @@ pub enum Status {
     WriteFault,
     /// There is not enough memory.
     NoMemory,
-    /// An instruction that the guest came to is not built yet.
-    Unbuilt,
 }
 
 impl Status {
@@ -56,7 +52,6 @@ impl Status {
         match self {
             Status::Done => DONE,
             Status::Exited(code) => code,
-            Status::Unbuilt => UNBUILT,
             Status::Trapped => TRAPPED,
             Status::StepLimit => STEP_LIMIT,
             Status::Refused(_) => REFUSED,

@@ -8,7 +8,7 @@ ghost use Rattle.command_words.specs.declared.words.ImageCommand.{ImageCommand};
 ghost use Rattle.report_texts.specs.Layouts.{layout_text};
 ghost use Rattle.report_texts.specs.Lines.{refused_line as line_for};
 ghost use Rattle.cape_top.specs.Calls.{call, SinkRose};
-ghost use Rattle.cape_top.specs.Statuses.{IsOfRun, IsFault, KeepsMachine};
+ghost use Rattle.cape_top.specs.Statuses.{IsOfRun, IsFault};
 ghost use Rattle.cape_top.specs.Runs.{LoadedEnds, LoadedReads};
 ghost use Rattle.cape_top.specs.Promises.{ImageEnds, MayKeepOf, ReadCause, RunsImage};
 
@@ -49,7 +49,7 @@ fn run_loaded<S: Source, O: Sink, E: Sink>(
     requires none { kept.old ≡ None }
     ensures ends { LoadedEnds loaded options (devices S.Source O.Sink E.Sink input.old input.new out.old out.new err.old err.new) result kept.new }
     ensures only { IsOfRun result ⊎ (IsFault result ⊎ (result ≡ Status.NoMemory)) }
-    ensures kept { KeepsMachine result ⊎ (kept.new ≡ None) }
+    ensures kept { IsOfRun result ⊎ (kept.new ≡ None) }
     ensures read { result ≡ Status.ReadFault → Rose (S.faults input.old) (S.faults input.new) }
     ensures reads { result ≡ Status.ReadFault → LoadedReads loaded options (views S.Source O.Sink E.Sink input.old out.old err.old) }
     ensures write { result ≡ Status.WriteFault → SinkRose (devices S.Source O.Sink E.Sink input.old input.new out.old out.new err.old err.new) }

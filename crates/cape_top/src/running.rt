@@ -9,9 +9,9 @@ ghost use Rattle.run_texts.specs.CountTexts.{counts_text};
 ghost use Rattle.run_texts.specs.WorkTexts.{work_text};
 ghost use Rattle.command_words.specs.Grammar.{most_steps};
 ghost use Rattle.cape_top.specs.Calls.{SinkRose};
-ghost use Rattle.cape_top.specs.Statuses.{IsOfRun, IsFault, KeepsMachine};
-ghost use Rattle.cape_top.specs.Endings.{kept_after, status_for as status_of_answer, text_if};
-ghost use Rattle.cape_top.specs.Runs.{MachineEnds, MachineReads, end_of, shown_of, shown_of_after};
+ghost use Rattle.cape_top.specs.Statuses.{IsOfRun, IsFault};
+ghost use Rattle.cape_top.specs.Endings.{status_for as status_of_answer, text_if};
+ghost use Rattle.cape_top.specs.Runs.{MachineEnds, MachineReads, end_of, shown_of};
 
 use crate::ending::Status;
 use cape_io::{Failed, Sink, Source};
@@ -28,18 +28,6 @@ pub(crate) fn status_for(answer: Step) -> Status
         Step::Ran => Status::StepLimit,
         Step::Exited(code) => Status::Exited(code),
         Step::Trapped(_) => Status::Trapped,
-        Step::Unbuilt => Status::Unbuilt,
-    }
-}
-
-// Keeps the machine, unless it met what is not built.
-fn keep(kept: &mut Option<Machine>, machine: Machine, answer: Step)
-    requires { kept.old ≡ None }
-    ensures { kept.new ≡ kept_after answer machine }
-{
-    match answer {
-        Step::Unbuilt => {}
-        Step::Ran | Step::Exited(_) | Step::Trapped(_) => *kept = Some(machine),
     }
 }
 
@@ -85,21 +73,6 @@ fn write_shown<E: Sink>(machine: &Machine, options: RunOptions, err: &mut E) -> 
     write_work_if(machine, options.work, err)
 }
 
-// Writes what is asked for, unless the machine met what is not built: nothing follows the line about that.
-fn write_shown_after<E: Sink>(
-    machine: &Machine,
-    answer: Step,
-    options: RunOptions,
-    err: &mut E,
-) -> Result<(), Failed>
-    ensures { Writes E.Sink (shown_of_after answer options machine.now) (is_ok result) err.old err.new }
-{
-    match answer {
-        Step::Unbuilt => Ok(()),
-        Step::Ran | Step::Exited(_) | Step::Trapped(_) => write_shown(machine, options, err),
-    }
-}
-
 // Writes the report line, and what is asked for.
 fn write_end<E: Sink>(
     machine: &Machine,
@@ -110,7 +83,7 @@ fn write_end<E: Sink>(
     ensures { Writes E.Sink (end_of answer options machine.now) (is_ok result) err.old err.new }
 {
     write_line(&report_line(answer, machine.retired()), err)?;
-    write_shown_after(machine, answer, options, err)
+    write_shown(machine, options, err)
 }
 
 // Runs the machine to its end, writes the report, and keeps the machine.
@@ -129,7 +102,7 @@ pub(crate) fn run_machine<S: Source, O: Sink, E: Sink>(
     requires none { kept.old ≡ None }
     ensures ends { MachineEnds machine options (devices S.Source O.Sink E.Sink input.old input.new out.old out.new err.old err.new) result kept.new }
     ensures only { IsOfRun result ⊎ IsFault result }
-    ensures kept { KeepsMachine result ⊎ (kept.new ≡ None) }
+    ensures kept { IsOfRun result ⊎ (kept.new ≡ None) }
     ensures read { result ≡ Status.ReadFault → Rose (S.faults input.old) (S.faults input.new) }
     ensures reads { result ≡ Status.ReadFault → MachineReads machine options (views S.Source O.Sink E.Sink input.old out.old err.old) }
     ensures write { result ≡ Status.WriteFault → SinkRose (devices S.Source O.Sink E.Sink input.old input.new out.old out.new err.old err.new) }
@@ -140,7 +113,7 @@ pub(crate) fn run_machine<S: Source, O: Sink, E: Sink>(
         Err(DeviceFault::WriteFault) => Status::WriteFault,
         Ok(answer) => match write_end(&machine, answer, options, err) {
             Ok(()) => {
-                keep(kept, machine, answer);
+                *kept = Some(machine);
                 status_for(answer)
             }
             Err(_) => Status::WriteFault,

@@ -147,6 +147,6 @@ pub(crate) fn bench<O: Sink, E: Sink>(
             }
             Err(_) => Status::WriteFault,
         },
-        Step::Ran | Step::Trapped(_) | Step::Unbuilt => write_other(&machine, answer, err),
+        Step::Ran | Step::Trapped(_) => write_other(&machine, answer, err),
     }
 }

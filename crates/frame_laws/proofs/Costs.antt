@@ -132,7 +132,7 @@ length_law i b body n same =
 -- ---- in a chain's range
 
 -- the numbers of the elements of the group are below the bits of a register
-reaches : (i : Shape) (columns g from to : ℕ) → Framed i columns → g < i.registers → MaskReaches columns i.width (first_of i g) from to
+pub reaches : (i : Shape) (columns g from to : ℕ) → Framed i columns → g < i.registers → MaskReaches columns i.width (first_of i g) from to
 reaches i columns g from to framed below e above inside lower upper =
     let n = 32 / i.width in
     let v : i.vlen ≡ columns * n * i.width + 0 = framed.vlen ∙ omega (arith, ap (λ x. columns * x) framed.lanes) in

@@ -1,4 +1,5 @@
 -- The proofs of the facts of legality.
+pub mod Valid
 pub mod Widths
 pub mod Rules
 pub mod Overlaps

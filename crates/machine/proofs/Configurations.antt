@@ -15,7 +15,7 @@ use Rattle.vtype_cfg.specs.Settings.{is_legal_vlen, is_vill_or_supported, is_val
 use Rattle.rvv_meaning.specs.Operations.{operation_for}
 use Rattle.rvv_meaning.specs.States.{Core, cfg_at, after_flow, with_vector_effect, executed_vector, vector_effect_at}
 use Rattle.rvv_meaning.specs.Whole.{Left, elements, number, whole_for}
-use Rattle.rvv_meaning.specs.Vectors.{VectorEffect, left_by, left_of, scalar_operand, is_built, is_computed, configuration_effect, elements_effect, number_effect, access_outcome, flow_after, access_effect, left_effect, no_effect, effect_by, vector_effect}
+use Rattle.rvv_meaning.specs.Vectors.{VectorEffect, left_by, left_of, scalar_operand, is_computed, configuration_effect, elements_effect, number_effect, access_outcome, flow_after, access_effect, left_effect, no_effect, effect_by, vector_effect}
 
 pub valid-cfg : (c : Cfg) → IsTrue (is_legal_vlen c.vlen) → IsTrue (is_vill_or_supported c.vtype) → c.vl ≤ vlmax c.vtype c.vlen → c.vstart < c.vlen → c.vxrm ≤ 3 → IsTrue (is_valid c)
 unfolding is_valid
@@ -25,14 +25,10 @@ valid-cfg c legal setting most starts rounding =
     let mode : nat_le c.vxrm 3 ≡ true = grind (arith, nat_tests) in
     rw (legal, setting, few, inside, mode) refl
 
--- of what is built all but configurations, loads and stores computes from the registers
-pub computed-built : (op : VOp) → is_built op ≡ true → ((o : OpiOp) × (op ≡ Opi o)) ⊎ ((o : OpmOp) × (op ≡ Opm o)) → is_computed op ≡ true
-computed-built (Opi o) built which = built
-computed-built (Opm o) built which = built
-computed-built (Config o) built (inl (x, is)) = cc
-computed-built (Config o) built (inr (x, is)) = cc
-computed-built (Moves o) built (inl (x, is)) = cc
-computed-built (Moves o) built (inr (x, is)) = cc
+-- all but configurations, loads and stores computes from the registers
+pub computes : (op : VOp) → ((o : OpiOp) × (op ≡ Opi o)) ⊎ ((o : OpmOp) × (op ≡ Opm o)) → is_computed op ≡ true
+computes op (inl (o, is)) = rw is refl
+computes op (inr (o, is)) = rw is refl
 
 -- ---- what a vector instruction leaves
 

@@ -14,14 +14,14 @@ use Rattle.rvv_decode.specs.declared.instruction.VOp.TheVariants.{Opi, Opm, Conf
 use Rattle.vtype_cfg.specs.declared.configuration.Cfg.{Cfg}
 use Rattle.vtype_cfg.specs.Legality.{is_legal}
 use Rattle.rvv_meaning.specs.declared.Meaning.TheVariants.{Vector}
-use Rattle.rvv_meaning.specs.declared.Mode.TheVariants.{Running, Unbuilt}
+use Rattle.rvv_meaning.specs.declared.Mode.TheVariants.{Running}
 use Rattle.rvv_meaning.specs.declared.Next.TheVariants.{Stop, Perform}
 use Rattle.rvv_meaning.specs.declared.accesses.Access.{Access}
 use Rattle.rvv_meaning.specs.Elementwise.{is_ones}
 use Rattle.rvv_meaning.specs.LoadsAndStores.{Outcome, address, bytes_of, stored_all, pages_stored, loads, stores, outcome_by, outcome}
 use Rattle.rvv_meaning.specs.States.{Core, cfg_at, vtype_at, trap, next, next_for, next_scalar, next_vector, execute, word_size, fetch_fault, core_after, after_flow, executed_vector, is_running}
 use Rattle.rvv_meaning.specs.VectorAccesses.{access_of, is_store, reads_memory, writes_memory}
-use Rattle.rvv_meaning.specs.Vectors.{is_built, flow_after, access_effect}
+use Rattle.rvv_meaning.specs.Vectors.{flow_after, access_effect}
 use Rattle.vec_mem.specs.Resumption.{GoesOn}
 use Rattle.vec_mem.proofs.GoingOn.{resume_law as access_law}
 use Rattle.vec_mem.proofs.Restoring.{added-extends}
@@ -36,7 +36,6 @@ record Found (c : Core) (i : VInstr) : Type 0 where
   scalar : means (loaded c.mem.pages c.pc word_size) ≡ None
   vector : means_vector (loaded c.mem.pages c.pc word_size) ≡ Some i
   legal : is_legal i (vtype_at c) c.csrs.vstart ≡ true
-  built : is_built i.op ≡ true
 
 found : (c : Core) (i : VInstr) → next c ≡ Perform (Vector i) → Found c i
 unfolding next
@@ -45,18 +44,17 @@ found c i there = by (first_bad c.mem.pages execute c.pc word_size) refl there
     word : ℕ
     word = loaded c.mem.pages c.pc word_size
 
-    at_legal : (j : VInstr) (l b : Bool) → first_bad c.mem.pages execute c.pc word_size ≡ None → means word ≡ None → means_vector word ≡ Some j
-        → is_legal j (vtype_at c) c.csrs.vstart ≡ l → is_built j.op ≡ b
-        → (if l then (if b then Perform (Vector j) else Stop Unbuilt) else Stop (trap 2 word c)) ≡ Perform (Vector i) → Found c i
-    at_legal j true true fine scalar vector legal built e =
+    at_legal : (j : VInstr) (l : Bool) → first_bad c.mem.pages execute c.pc word_size ≡ None → means word ≡ None → means_vector word ≡ Some j
+        → is_legal j (vtype_at c) c.csrs.vstart ≡ l
+        → (if l then Perform (Vector j) else Stop (trap 2 word c)) ≡ Perform (Vector i) → Found c i
+    at_legal j true fine scalar vector legal e =
         let same : j ≡ i = cc in
-        record { fine = fine; scalar = scalar; vector = rw same at vector; legal = rw same at legal; built = rw same at built }
-    at_legal j true false fine scalar vector legal built e = cc
-    at_legal j false b fine scalar vector legal built e = cc
+        record { fine = fine; scalar = scalar; vector = rw same at vector; legal = rw same at legal }
+    at_legal j false fine scalar vector legal e = cc
 
     at_vector : (o : Option VInstr) → first_bad c.mem.pages execute c.pc word_size ≡ None → means word ≡ None → means_vector word ≡ o → next_vector c word o ≡ Perform (Vector i) → Found c i
     at_vector None fine scalar vector e = cc
-    at_vector (Some j) fine scalar vector e = at_legal j (is_legal j (vtype_at c) c.csrs.vstart) (is_built j.op) fine scalar vector refl refl e
+    at_vector (Some j) fine scalar vector e = at_legal j (is_legal j (vtype_at c) c.csrs.vstart) fine scalar vector refl e
 
     at_scalar : (o : Option Instr) → first_bad c.mem.pages execute c.pc word_size ≡ None → means word ≡ o → next_scalar c word o ≡ Perform (Vector i) → Found c i
     at_scalar None fine scalar e = at_vector (means_vector word) fine scalar refl e
@@ -69,7 +67,7 @@ found c i there = by (first_bad c.mem.pages execute c.pc word_size) refl there
 -- and where it comes so
 comes : (c : Core) (i : VInstr) → Found c i → next c ≡ Perform (Vector i)
 unfolding next
-comes c i f = rw (f.fine, f.scalar, f.vector, f.legal, f.built) refl
+comes c i f = rw (f.fine, f.scalar, f.vector, f.legal) refl
 
 -- ---- permissions
 
@@ -203,7 +201,6 @@ module _ (c : Core) (i : VInstr) (q : ℕ) (h : TrapsAtAccess c i) (nm : Named i
         scalar = ap means word-again ∙ first.scalar;
         vector = ap means_vector word-again ∙ first.vector;
         legal = rw keeps.vtype at law.legal;
-        built = first.built;
       })
 
   next-whole : next whole ≡ Perform (Vector i)
@@ -213,7 +210,6 @@ module _ (c : Core) (i : VInstr) (q : ℕ) (h : TrapsAtAccess c i) (nm : Named i
         scalar = ap means same-whole.1 ∙ first.scalar;
         vector = ap means_vector same-whole.1 ∙ first.vector;
         legal = first.legal;
-        built = first.built;
       })
 
   -- ---- what it leaves

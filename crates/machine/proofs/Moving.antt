@@ -25,7 +25,7 @@ use Rattle.micro_ir.proofs.Lists.{or_false}
 use Rattle.machine.proofs.Configurations.{left-is, effect-is}
 use Rattle.machine.proofs.Leaving.{Kind, computed-left}
 use Rattle.vec_exec.proofs.Placed.{valid-setting}
-use Rattle.vec_exec.specs.Moves.{LeavesRegisters}
+use Rattle.element_moves.specs.Permutations.{LeavesRegisters}
 use Rattle.vec_exec.specs.Programs.{is_engine, is_engine_op, is_opm_engine}
 use Rattle.rvv_meaning.specs.Elementwise.{Elementwise, registers_after, clips, is_ones}
 use Rattle.rvv_meaning.specs.States.{Core, cfg_at, advanced, executed_vector, vector_effect_at}

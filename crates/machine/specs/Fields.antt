@@ -9,14 +9,11 @@ use Rattle.rvv_meaning.specs.declared.Meaning.TheVariants.{Scalar, Vector}
 use Rattle.rvv_meaning.specs.declared.Next.{Next}
 use Rattle.rvv_meaning.specs.declared.Next.TheVariants.{Stop, Perform}
 use Rattle.rvv_meaning.specs.States.{Core, vtype_at}
-use Rattle.rvv_meaning.specs.Vectors.{is_built}
 
--- a vector instruction that a machine can carry out: its fields are as large as a word lets them be, and it is legal and
--- built
+-- a vector instruction that a machine can carry out: its fields are as large as a word lets them be, and it is legal
 pub record VectorFits (c : Core) (i : VInstr) : Type 0 where
   pub fields : IsInRange i
   pub legal : is_legal i (vtype_at c) c.csrs.vstart ≡ true
-  pub built : is_built i.op ≡ true
 
 -- a scalar instruction is that of some word
 abbrev pub FieldsFit : Core → Meaning → Type 0

@@ -7,7 +7,7 @@ use Rattle.rvv_decode.specs.declared.instruction.VInstr.{VInstr}
 use Rattle.vtype_cfg.specs.Settings.{is_valid}
 use Rattle.rvv_meaning.specs.declared.Meaning.TheVariants.{Vector}
 use Rattle.rvv_meaning.specs.declared.Mode.{Mode}
-use Rattle.rvv_meaning.specs.declared.Mode.TheVariants.{Running, Exited, Trapped, Unbuilt}
+use Rattle.rvv_meaning.specs.declared.Mode.TheVariants.{Running, Exited, Trapped}
 use Rattle.rvv_meaning.specs.declared.Next.TheVariants.{Perform}
 use Rattle.rvv_meaning.specs.Elementwise.{size_of}
 use Rattle.rvv_meaning.specs.States.{Core, cfg_at, core_after, is_running, next, word_size}
@@ -18,7 +18,6 @@ abbrev pub resumed_mode : Mode → Mode
 resumed_mode Running = Running
 resumed_mode (Exited code) = Exited code
 resumed_mode (Trapped t) = Running
-resumed_mode Unbuilt = Unbuilt
 
 abbrev pub resumed : Core → Core
 resumed c = record c { mode = resumed_mode c.mode }

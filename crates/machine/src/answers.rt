@@ -11,8 +11,6 @@ pub enum Step {
     Exited(u8),
     /// The guest trapped, with the machine at the instruction.
     Trapped(Trap),
-    /// The instruction at pc is not built yet.
-    Unbuilt,
 }
 
 /// The device that failed in a step.

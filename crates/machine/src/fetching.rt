@@ -9,7 +9,6 @@ use guest_mem::Trap;
 use rv32_decode::decode;
 use rvv_decode::decode_v;
 use rvv_meaning::{Meaning, Mode, Next};
-use vec_exec::built;
 use vtype_cfg::{Vtype, legal};
 
 // The causes of traps: a fetch without permission, and an illegal word (RISC-V privileged specification, mcause).
@@ -40,9 +39,6 @@ impl Machine {
         let vtype = Vtype::from_bits(self.csrs.vtype);
         if !legal(&i, &vtype, self.csrs.vstart, self.csrs.vlen) {
             return Next::Stop(self.trap(ILLEGAL_WORD, word));
-        }
-        if !built(&i) {
-            return Next::Stop(Mode::Unbuilt);
         }
         Next::Perform(Meaning::Vector(i))
     }

@@ -248,7 +248,6 @@ impl Machine {
             Mode::Running => Step::Ran,
             Mode::Exited(code) => Step::Exited(code),
             Mode::Trapped(trap) => Step::Trapped(trap),
-            Mode::Unbuilt => Step::Unbuilt,
         }
     }
 }

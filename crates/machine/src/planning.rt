@@ -23,7 +23,6 @@ impl Machine {
     }
 
     // The program of an instruction that a program carries out.
-    #[tactic(auto, using(vec_exec::proofs::Computed::engine_computed))]
     fn plan_vector(&self, i: &VInstr, buf: &mut MicroBuf)
         requires fits { VectorFits self.now.core i.now }
         requires engine { is_engine i.now ≡ true }

@@ -269,7 +269,7 @@ impl Machine {
             let answer = self.step(input, out, err, merged)?;
             match answer {
                 Step::Ran => {}
-                Step::Exited(_) | Step::Trapped(_) | Step::Unbuilt => return Ok(answer),
+                Step::Exited(_) | Step::Trapped(_) => return Ok(answer),
             }
         }
         Ok(Step::Ran)

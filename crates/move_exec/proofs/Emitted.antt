@@ -8,6 +8,12 @@ use Rattle.move_exec.specs.declared.bodies.Body.TheVariants.{Bits, Marked, Numbe
 use Rattle.move_exec.specs.declared.frames.Frame.{Frame}
 use Rattle.move_exec.specs.Bodies.{body_length, emitted_at}
 use Rattle.move_exec.specs.Frames.{register_length}
+use Rattle.move_exec.specs.declared.kinds.Kind.{Kind}
+use Rattle.move_exec.specs.declared.kinds.Kind.TheVariants.{Moves}
+use Rattle.move_exec.specs.declared.moves.Move.{Move}
+use Rattle.move_exec.specs.declared.moves.Move.TheVariants.{UpByOne, DownByOne}
+use Rattle.move_exec.specs.Kinds.{takes_scalar, last_length}
+use Rattle.move_exec.specs.Moves.{single_length}
 use Rattle.move_exec.specs.Programs.{program_length}
 
 -- ---- the width that a list is emitted at
@@ -23,9 +29,9 @@ at-byte w half word = rw (ne_eqb w 16 half, ne_eqb w 32 word) refl
 
 -- ---- the room that a program takes
 
-few-ops : (b : Bool) → cond b 3 0 ≤ 3
-few-ops true = omega arith
-few-ops false = omega arith
+few-ops : (b : Bool) (n : ℕ) → cond b n 0 ≤ n
+few-ops true n = omega arith
+few-ops false n = omega arith
 
 body-few : (body : Body) → body_length body ≤ 11
 body-few (Bits kind a b) = length-few kind
@@ -35,11 +41,17 @@ body-few (Slid base up by limit) = omega arith
 body-few (Picked base index limit) = omega arith
 body-few Scalar = omega arith
 
-pub room : (f : Frame) (body : Body) → f.registers ≤ 8 → f.registers * register_length f body ≤ 262144
-room f body few =
-    let each : register_length f body ≤ 15 = omega (arith, few-ops f.ones, body-few body) in
-    let all : f.registers * register_length f body ≤ 8 * 15 = mul-le f.registers (register_length f body) 8 15 few each in
-    omega (arith, all)
+single-few : (how : Move) → single_length how ≤ 5
+single-few UpByOne = omega arith
+single-few DownByOne = omega arith
+single-few _ = omega arith
 
-pub written : (f : Frame) (body : Body) → f.registers * register_length f body ≡ program_length f body
-written f body = omega arith
+last-few : (kind : Kind) → last_length kind ≤ 5
+last-few (Moves how) = single-few how
+last-few _ = omega arith
+
+pub room : (kind : Kind) (f : Frame) (body : Body) → f.registers ≤ 8 → program_length kind f body ≤ 262144
+room kind f body few =
+    let each : register_length f body ≤ 15 = omega (arith, few-ops f.ones 3, body-few body) in
+    let all : f.registers * register_length f body ≤ 8 * 15 = mul-le f.registers (register_length f body) 8 15 few each in
+    omega (arith, all, last-few kind, few-ops (takes_scalar kind) 4)

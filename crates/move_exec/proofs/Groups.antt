@@ -23,7 +23,7 @@ use Rattle.move_exec.specs.declared.bodies.Body.TheVariants.{Numbers}
 use Rattle.move_exec.specs.declared.frames.Frame.{Frame}
 use Rattle.move_exec.specs.Bodies.{AllThere, body_list, emitted_at}
 use Rattle.move_exec.specs.Frames.{frame_shape, frame_bounds}
-use Rattle.move_exec.specs.Kinds.{group_registers, group_frame}
+use Rattle.move_exec.specs.Written.{group_registers, group_frame}
 use Rattle.move_exec.proofs.Sound.{Sound}
 
 -- a group of elements of SEW bits takes as many registers as such a group does
@@ -130,7 +130,7 @@ module _ (class : Class) (i : VInstr) (c : Cfg) (written : GroupWritten class i 
       let all : MovesAll op w (i.vd + g) (move_ops w op (i.vd + g)) = moves-all op w (i.vd + g) (omega (arith, least)) a.lanes to (refl, refl) in
       realises-move op w (i.vd + g) (move_ops w op (i.vd + g)) (omega (arith, least)) all (frame_shape (group_frame i c) c false 8 0 number_result) (frame_bounds (group_frame i c)) g refl refl (λ v p m active. refl)
 
-  pub numbers-sound : Sound (group_frame i c) Numbers c (λ v. group_elements (λ e. e))
+  pub numbers-sound : Sound (group_frame i c) Numbers c false 8 0 (λ v. group_elements (λ e. e))
   numbers-sound =
       let w = c.vtype.sew in
       let a = width-of w written.sew in
@@ -147,6 +147,6 @@ module _ (class : Class) (i : VInstr) (c : Cfg) (written : GroupWritten class i 
         realised = numbers-realised;
         range = λ g l. (move-measured (Index result_row w (g * (c.vlen / w))) w (i.vd + g) (omega (arith, least)) (there g l).0 (refl, refl)).range (c.vlen / 32) (omega arith, a.built);
         shape = λ v. group-shape number_result (λ e. e);
-        results = λ v e l. refl;
+        results = λ s long e l. refl;
         unclipped = λ v k. refl;
       }

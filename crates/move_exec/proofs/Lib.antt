@@ -9,5 +9,15 @@ pub mod Sound
 pub mod Masks
 pub mod Prefixes
 pub mod Groups
+pub mod Sized
+pub mod Sources
+pub mod Standing
+pub mod Slides
+pub mod Moved
+pub mod Scalars
+pub mod Wholes
+pub mod Kept
+pub mod ByOne
+pub mod MoveTable
 pub mod Realised
 pub mod Emitted

@@ -27,7 +27,7 @@ use Rattle.rvv_meaning.specs.Elementwise.{Elementwise}
 use Rattle.move_exec.specs.declared.bodies.Body.TheVariants.{Bits}
 use Rattle.move_exec.specs.Bodies.{AllThere, place_at, body_list}
 use Rattle.move_exec.specs.Frames.{frame_shape, frame_bounds}
-use Rattle.move_exec.specs.Kinds.{mask_frame}
+use Rattle.move_exec.specs.Written.{mask_frame}
 use Rattle.move_exec.proofs.Sound.{Sound}
 
 -- the truth does not depend on the mask
@@ -142,7 +142,7 @@ module _ (kind : Logic) (plain : takes_mask kind ≡ false) (i : VInstr) (c : Cf
     clipped = λ w e. false;
   }
 
-  pub masks-sound : Sound (mask_frame false i c) (Bits kind i.vs2 i.vs1) c mask_elements
+  pub masks-sound : Sound (mask_frame false i c) (Bits kind i.vs2 i.vs1) c false 8 0 mask_elements
   unfolding bits_of
   masks-sound =
       let shape : Shape = bits_shape false i c vd never mask_result in
@@ -158,6 +158,6 @@ module _ (kind : Logic) (plain : takes_mask kind ≡ false) (i : VInstr) (c : Cf
         realised = λ g l. let z : g ≡ 0 = omega arith in rw z only-realised;
         range = λ g l. (logic-measured kind 1 (i.vs2 + g) (i.vs1 + g) (i.vd + g) (there g l).0).range (c.vlen / 32);
         shape = λ v. ap (λ (t : Bool). record shape { tail = t }) (and-true (ltb c.vstart c.vl));
-        results = λ v e l. refl;
+        results = λ s long e l. refl;
         unclipped = λ v k. refl;
       }

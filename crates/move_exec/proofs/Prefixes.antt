@@ -29,7 +29,8 @@ use Rattle.move_exec.specs.declared.bodies.Body.TheVariants.{Marked}
 use Rattle.move_exec.specs.declared.kinds.Kind.TheVariants.{Marks}
 use Rattle.move_exec.specs.Bodies.{AllThere, body_list}
 use Rattle.move_exec.specs.Frames.{frame_bounds}
-use Rattle.move_exec.specs.Kinds.{mask_frame, leaving_of}
+use Rattle.move_exec.specs.Kinds.{leaving_of}
+use Rattle.move_exec.specs.Written.{mask_frame}
 use Rattle.move_exec.proofs.Masks.{number-one, here, and-true, bits_shape, two_sources, bits-legal, bits-bounded}
 use Rattle.move_exec.proofs.Sound.{Sound}
 
@@ -96,7 +97,10 @@ module _ (how : Reach) (i : VInstr) (c : Cfg) (start : c.vstart ≡ 0) (long : c
         active = λ on m mask.
             let active : bit_in s active_row e ≡ true = sym (here s k col active_row fits inside) ∙ on 0 (omega arith) in
             let within : is_within c.vstart c.vl (not i.vm) (bit_in s 0) (element_number marks_shape 0 k col) ≡ true = sym (windowed.active k col 0 fits inside (omega arith)) ∙ on 0 (omega arith) in
-            let less : element_number marks_shape 0 k col < c.vl = ltb-true (element_number marks_shape 0 k col) c.vl (and_parts _ _ (and_parts _ _ within).0).1 in
+            let number_here : ℕ = element_number marks_shape 0 k col in
+            let bounds : (leb c.vstart number_here && ltb number_here c.vl) ≡ true =
+            (and_parts (leb c.vstart number_here && ltb number_here c.vl) (not (not i.vm) || bit_in s 0 number_here) within).0 in
+            let less : number_here < c.vl = ltb-true number_here c.vl (and_parts (leb c.vstart number_here) (ltb number_here c.vl) bounds).1 in
             let sets : (n : ℕ) → n ≤ e → is_set (i.vs2 + 0) s n ≡ set_in (bit_in s) n = λ n l.
             rw (second, gate s windowed n (omega (arith, less, number)) (omega arith)) refl in
             number-one (element 1 k col (replay ops s) (i.vd + 0)) (prefix_bit how (set_in (bit_in s)) (element_number marks_shape 0 k col))
@@ -124,7 +128,7 @@ module _ (how : Reach) (i : VInstr) (c : Cfg) (start : c.vstart ≡ 0) (long : c
     clipped = λ w e. false;
   }
 
-  pub marks-sound : Sound (mask_frame (not i.vm) i c) (Marked i.vs2 how) c marks_elements
+  pub marks-sound : Sound (mask_frame (not i.vm) i c) (Marked i.vs2 how) c false 8 0 marks_elements
   unfolding bits_of
   marks-sound =
       let there : (g : ℕ) → g < 1 → AllThere (mask_frame (not i.vm) i c) (Marked i.vs2 how) g = λ g l. (omega arith, omega arith) in
@@ -139,7 +143,7 @@ module _ (how : Reach) (i : VInstr) (c : Cfg) (start : c.vstart ≡ 0) (long : c
         realised = λ g l. let z : g ≡ 0 = omega arith in rw z only-realised;
         range = λ g l. (prefix-measured (i.vs2 + g) how (i.vd + g) (there g l).0).range (c.vlen / 32);
         shape = λ v. ap (λ (t : Bool). record marks_shape { tail = t }) (and-true (ltb c.vstart c.vl));
-        results = λ v e l. refl;
+        results = λ s long e l. refl;
         unclipped = λ v k. refl;
       }
 

@@ -20,18 +20,18 @@ use Rattle.move_exec.specs.Frames.{window_of, fill_of, register_list, registers_
 abbrev pub IsQuiet : List MicroOp → Type 0
 IsQuiet ops = (s : Slices) → clips ops s ≡ false
 
-quiet-none : IsQuiet []
+pub quiet-none : IsQuiet []
 unfolding clips
 quiet-none s = refl
 
 -- one that leaves the control numbers
-quiet-keep : (ops : List MicroOp) → all_keep_control ops ≡ true → IsQuiet ops
+pub quiet-keep : (ops : List MicroOp) → all_keep_control ops ≡ true → IsQuiet ops
 quiet-keep ops keep s = clips-none ops s keep
 
 quiet-steps : (w : ℕ) (steps : List Step) → IsQuiet (micros w steps)
 quiet-steps w steps = quiet-keep (micros w steps) (micros-keep w steps)
 
-quiet-append : (xs ys : List MicroOp) → IsQuiet xs → IsQuiet ys → IsQuiet (xs ++ ys)
+pub quiet-append : (xs ys : List MicroOp) → IsQuiet xs → IsQuiet ys → IsQuiet (xs ++ ys)
 quiet-append xs ys first second s = clips-append xs ys s ∙ rw (first s, second (replay xs s)) refl
 
 quiet-cond : (b : Bool) (ops : List MicroOp) → IsQuiet ops → IsQuiet (cond b ops [])

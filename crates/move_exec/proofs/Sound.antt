@@ -33,7 +33,7 @@ use Rattle.move_exec.specs.declared.frames.Frame.{Frame}
 use Rattle.move_exec.specs.Bodies.{Ready, AllThere, body_at, body_list, body_counts, body_length}
 use Rattle.move_exec.specs.Frames.{frame_shape, frame_bounds}
 use Rattle.move_exec.specs.Laws.{Fine}
-use Rattle.move_exec.specs.Programs.{body_program, body_cost, program_length}
+use Rattle.move_exec.specs.Programs.{scalar_program, scalar_cost, scalar_length}
 use Rattle.move_exec.proofs.Meant.{realises-elements, elements-left, bits-left}
 use Rattle.move_exec.proofs.Measured.{ProgramMeasured, frame-measured}
 use Rattle.move_exec.proofs.Quiet.{program-quiet}
@@ -43,19 +43,19 @@ use Rattle.move_exec.proofs.Valid.{valid-length, some-columns}
 abbrev pub IsMaskOrGroup : Frame → Type 0
 IsMaskOrGroup f = ((f.width ≡ 1) × (f.registers ≡ 1)) ⊎ IsElementWidth f.width
 
--- Of an instruction that leaves these elements: the frame and the list of each register, with the results that the registers get
--- and the registers that they are computed from.
-pub record Sound (f : Frame) (body : Body) (c : Cfg) (e : List (List ℕ) → Elementwise) : Type 0 where
+-- Of an instruction that leaves these elements: the frame, the list of each register and, where it takes one, the scalar, with the
+-- results that the registers get and the registers that they are computed from.
+pub record Sound (f : Frame) (body : Body) (c : Cfg) (takes : Bool) (w z : ℕ) (e : List (List ℕ) → Elementwise) : Type 0 where
   pub ready : Ready f body
   pub kind : IsMaskOrGroup f
   pub result : Registers → ℕ → Bool → ℕ
   pub source : (g r : ℕ) → Bool
-  pub legal : (columns : ℕ) → c.vlen ≡ 32 * columns → Legal (frame_shape f c false 8 0 result) source columns
-  pub bounded : Bounded (frame_shape f c false 8 0 result) (frame_bounds f)
-  pub realised : AllRealised (frame_shape f c false 8 0 result) (frame_bounds f) (body_list f body c)
+  pub legal : (columns : ℕ) → c.vlen ≡ 32 * columns → Legal (frame_shape f c takes w z result) source columns
+  pub bounded : Bounded (frame_shape f c takes w z result) (frame_bounds f)
+  pub realised : AllRealised (frame_shape f c takes w z result) (frame_bounds f) (body_list f body c)
   pub range : (g : ℕ) → g < f.registers → AllInRange (c.vlen / 32) (body_list f body c g)
-  pub shape : (v : List (List ℕ)) → frame_shape f c false 8 0 result ≡ shape_of c (e v) false false 0 8 result
-  pub results : (v : List (List ℕ)) → AreResults (frame_shape f c false 8 0 result) ((e v).value v) v
+  pub shape : (v : List (List ℕ)) → frame_shape f c takes w z result ≡ shape_of c (e v) false takes z w result
+  pub results : (s : Slices) → c.vlen ≡ 32 * s.columns → AreResults (frame_shape f c takes w z result) ((e (registers_of s)).value (registers_of s)) (registers_of s)
   pub unclipped : (v : List (List ℕ)) (k : ℕ) → (e v).clipped v k ≡ false
 
 -- ---- the lists of bodies
@@ -93,11 +93,11 @@ built : (f : Frame) → IsMaskOrGroup f → is_width f.width ≡ true
 built f (inl mask) = rw mask.0 refl
 built f (inr group) = (width-of f.width group).built
 
-module _ (i : VInstr) (c : Cfg) (x : ℕ) (f : Frame) (body : Body) (e : List (List ℕ) → Elementwise) (sound : Sound f body c e) (valid : IsTrue (is_valid c)) where
+module _ (i : VInstr) (c : Cfg) (x : ℕ) (f : Frame) (body : Body) (takes : Bool) (w z : ℕ) (e : List (List ℕ) → Elementwise) (sound : Sound f body c takes w z e) (valid : IsTrue (is_valid c)) where
   abbrev shape : Shape
-  shape = frame_shape f c false 8 0 sound.result
+  shape = frame_shape f c takes w z sound.result
 
-  leaves : (s : Slices) → c.vlen ≡ 32 * s.columns → registers_of (replay (body_program f body c) s) ≡ registers_after c (e (registers_of s)) (registers_of s)
+  pub leaves : (s : Slices) → c.vlen ≡ 32 * s.columns → registers_of (replay (scalar_program f body c takes w z) s) ≡ registers_after c (e (registers_of s)) (registers_of s)
   leaves s long =
       let v : List (List ℕ) = registers_of s in
       let some : 0 < s.columns = some-columns c s.columns valid long in
@@ -105,23 +105,23 @@ module _ (i : VInstr) (c : Cfg) (x : ℕ) (f : Frame) (body : Body) (e : List (L
       let mask : eqb f.width 1 ≡ makes_mask (e v) = ap (λ w. eqb w 1) width in
       ⊎_elim
       (λ (m : (f.width ≡ 1) × (f.registers ≡ 1)).
-      bits-left f c false 8 0 sound.result (body_list f body c) (e v) sound.source s (sound.shape v) (sym mask ∙ single-bit f.width m.0) (sound.legal s.columns long) sound.bounded sound.realised some m.0 m.1 (sound.results v))
+      bits-left f c takes w z sound.result (body_list f body c) (e v) sound.source s (sound.shape v) (sym mask ∙ single-bit f.width m.0) (sound.legal s.columns long) sound.bounded sound.realised some m.0 m.1 (sound.results s long))
       (λ (g : IsElementWidth f.width).
-      elements-left f c false 8 0 sound.result (body_list f body c) (e v) sound.source s (sound.shape v) (sym mask ∙ no-bit f.width g) (sound.legal s.columns long) sound.bounded sound.realised some (width-of f.width g).whole (sound.results v))
+      elements-left f c takes w z sound.result (body_list f body c) (e v) sound.source s (sound.shape v) (sym mask ∙ no-bit f.width g) (sound.legal s.columns long) sound.bounded sound.realised some (width-of f.width g).whole (sound.results s long))
       sound.kind
 
-  measured : ProgramMeasured (c.vlen / 32) (body_cost f body) (program_length f body) (body_program f body c)
+  pub measured : ProgramMeasured (c.vlen / 32) (scalar_cost f body takes) (scalar_length f body takes) (scalar_program f body c takes w z)
   measured =
       let words : c.vlen ≡ 32 * (c.vlen / 32) = sym (vlen_words c.vlen (valid-length c valid)) in
       let one = λ (g : ℕ) (l : g < f.registers). body-measured f body (g * (c.vlen / f.width)) g sound.ready.width (sound.ready.there g l) in
-      frame-measured f c false 8 0 (c.vlen / 32) sound.result (body_list f body c) (body_counts body) (body_length body) (sound.legal (c.vlen / 32) words).framed (built f sound.kind)
+      frame-measured f c takes w z (c.vlen / 32) sound.result (body_list f body c) (body_counts body) (body_length body) (sound.legal (c.vlen / 32) words).framed (built f sound.kind)
       (record { cost = λ g l. (one g l).cost; count = λ g l. (one g l).count; range = sound.range })
 
-  pub sound-fine : ((v : List (List ℕ)) → left_of i c x v ≡ Some (elements (e v))) → Fine i c x (body_cost f body) (program_length f body) (body_program f body c)
+  pub sound-fine : ((v : List (List ℕ)) → left_of i c x v ≡ Some (elements (e v))) → Fine i c x (scalar_cost f body takes) (scalar_length f body takes) (scalar_program f body c takes w z)
   sound-fine left =
       let m = measured in
       record {
-        realises = realises-elements i c x (body_program f body c) e left sound.unclipped (program-quiet f c body false 8 0) leaves;
+        realises = realises-elements i c x (scalar_program f body c takes w z) e left sound.unclipped (program-quiet f c body takes w z) leaves;
         cost = m.cost;
         count = m.count;
         range = m.range;

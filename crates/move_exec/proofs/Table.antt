@@ -2,13 +2,14 @@
 use Rattle.std.proofs.Common.{◌≡◌, Bool, true, false, cond, not, Option, None, Some, refl, ap, subst}
 use Rattle.gen_logic.specs.Values.{takes_mask, differs, xnor}
 use Rattle.rvv_decode.specs.declared.instruction.VOp.{VOp}
-use Rattle.rvv_decode.specs.declared.instruction.VOp.TheVariants.{Opm}
-use Rattle.rvv_decode.specs.declared.instruction.OpmOp.TheVariants.{Vmand, Vmor, Vmxor, Vmnand, Vmnor, Vmxnor, Vmandn, Vmorn, Vmsbf, Vmsif, Vmsof, Vid}
-use Rattle.vtype_cfg.specs.Classes.{opm_class, class_of}
+use Rattle.rvv_decode.specs.declared.instruction.VOp.TheVariants.{Opi, Opm}
+use Rattle.rvv_decode.specs.declared.instruction.OpmOp.TheVariants.{Vmand, Vmor, Vmxor, Vmnand, Vmnor, Vmxnor, Vmandn, Vmorn, Vmsbf, Vmsif, Vmsof, Vid, Vslide1up, Vslide1down, VmvSX}
+use Rattle.rvv_decode.specs.declared.instruction.OpiOp.TheVariants.{Vslideup, Vslidedown, Vrgather, VmvWhole}
+use Rattle.vtype_cfg.specs.Classes.{opi_class, opm_class, class_of}
 use Rattle.rvv_meaning.specs.Operations.{operation_for}
 use Rattle.rvv_meaning.specs.Whole.{Leaving, whole_for, mask_logic}
 use Rattle.move_exec.specs.declared.kinds.Kind.{Kind}
-use Rattle.move_exec.specs.declared.kinds.Kind.TheVariants.{Masks, Marks, Numbers}
+use Rattle.move_exec.specs.declared.kinds.Kind.TheVariants.{Masks, Marks, Numbers, Moves}
 use Rattle.move_exec.specs.Kinds.{kind_for, class_for, leaving_of}
 
 -- a truth of two masks takes no third one
@@ -16,6 +17,7 @@ abbrev Plain : Kind → Type 0
 Plain (Masks kind) = takes_mask kind ≡ false
 Plain (Marks how) = Unit {0}
 Plain Numbers = Unit {0}
+Plain (Moves how) = Unit {0}
 
 -- what holds of an instruction of a kind: its class, and that it leaves what the kind does
 pub record Fits (op : VOp) (kind : Kind) : Type 0 where
@@ -46,7 +48,7 @@ chosen-agrees true b = refl
 chosen-agrees false b = refl
 
 fits : (op : VOp) → FitsIf op (kind_for op)
-unfolding kind_for opm_class whole_for operation_for
+unfolding kind_for opi_class opm_class whole_for operation_for
 fits (Opm Vmand) = record { class = refl; plain = refl; whole = refl; none = refl }
 fits (Opm Vmor) = record { class = refl; plain = refl; whole = refl; none = refl }
 fits (Opm Vmxor) = record { class = refl; plain = refl; whole = same-truths _ _ chosen-differs; none = refl }
@@ -59,6 +61,13 @@ fits (Opm Vmsbf) = record { class = refl; plain = tt; whole = refl; none = refl 
 fits (Opm Vmsif) = record { class = refl; plain = tt; whole = refl; none = refl }
 fits (Opm Vmsof) = record { class = refl; plain = tt; whole = refl; none = refl }
 fits (Opm Vid) = record { class = refl; plain = tt; whole = refl; none = refl }
+fits (Opm Vslide1up) = record { class = refl; plain = tt; whole = refl; none = refl }
+fits (Opm Vslide1down) = record { class = refl; plain = tt; whole = refl; none = refl }
+fits (Opm VmvSX) = record { class = refl; plain = tt; whole = refl; none = refl }
+fits (Opi Vslideup) = record { class = refl; plain = tt; whole = refl; none = refl }
+fits (Opi Vslidedown) = record { class = refl; plain = tt; whole = refl; none = refl }
+fits (Opi Vrgather) = record { class = refl; plain = tt; whole = refl; none = refl }
+fits (Opi VmvWhole) = record { class = refl; plain = tt; whole = refl; none = refl }
 fits _ = tt
 
 pub of-kind : (op : VOp) (kind : Kind) → kind_for op ≡ Some kind → Fits op kind

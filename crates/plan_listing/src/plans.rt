@@ -1,7 +1,5 @@
 //! What is told of a question.
 ghost use Rattle.std.specs.Prelude.{◌≡◌, ◌+◌, [], true, length, IsTrue, OnOk};
-ghost use Rattle.rvv_meaning.specs.Vectors.{is_computed};
-ghost use Rattle.vec_exec.specs.Programs.{is_engine};
 ghost use Rattle.vtype_cfg.specs.Settings.{is_valid, is_vill_or_supported};
 
 use crate::lines::Question;
@@ -9,17 +7,8 @@ use micro_ir::{LineBuf, MicroBuf, listing};
 use rvv_decode::{VInstr, decode_v};
 use std::alloc::{AllocError, Global};
 use std::fmt::Write;
-use vec_exec::{built, engine, plan};
+use vec_exec::{engine, plan};
 use vtype_cfg::legal;
-
-// Whether an instruction is built, and carried out by the program of a plan.
-#[tactic(auto, using(vec_exec::proofs::Computed::engine_computed))]
-fn is_planned(i: &VInstr) -> bool
-    ensures computed { result ≡ true → is_computed i.now.op ≡ true }
-    ensures engine { result ≡ true → is_engine i.now ≡ true }
-{
-    engine(i) && built(i)
-}
 
 // The program as lines, behind a line of its length.
 fn push_program(text: &mut String, buf: &MicroBuf) -> Result<(), AllocError> {
@@ -52,7 +41,7 @@ pub(crate) fn push_answer(
     if !legal(&i, &cfg.vtype, cfg.vstart, cfg.vlen) {
         return String::from_str(alloc, "illegal\n");
     }
-    if !is_planned(&i) {
+    if !engine(&i) {
         return String::from_str(alloc, "no plan\n");
     }
     plan(&i, cfg, question.scalar, buf);

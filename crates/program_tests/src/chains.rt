@@ -1,14 +1,15 @@
 //! Chains made of words, and lists that are carried out on them.
 use cam_chain::{Chain, Counts};
-use micro_ir::{Control, MicroBuf, replay};
+use micro_ir::{Control, MicroBuf, MicroOp, replay};
 use op_texts::{ROWS, are_in_range};
+use reduce_tree::How;
 use std::alloc::Global;
 use std::test::Fail;
 
 // The most columns of a chain.
 const MOST_COLUMNS: u32 = 2048;
 
-// The control number, which the lists here leave.
+// The control number, which lists leave that do not compute it.
 const NUMBER: u64 = 7;
 
 /// Numbers of searches, updates and passes.
@@ -53,8 +54,17 @@ pub(crate) fn holds(chain: &Chain, words: &[Word]) -> bool {
     true
 }
 
+// Whether an operation leaves the control number.
+const fn leaves_number(op: &MicroOp) -> bool {
+    match op {
+        MicroOp::SetNum { .. } | MicroOp::First => false,
+        MicroOp::Count { how, .. } => matches!(how, How::Clip),
+        _ => true,
+    }
+}
+
 /// Carries out the first operations of a list on a chain that nothing was counted on, and tells whether it could, left the
-/// control number, and set the flag of clipped results where `clips` says so.
+/// control number where no operation computes it, and set the flag of clipped results where `clips` says so.
 fn is_carried_out(chain: &mut Chain, buf: &MicroBuf, first: usize, clips: bool) -> bool {
     let counts = chain.counts();
     let counted = counts.searches > 0 || counts.updates > 0 || counts.passes > 0;
@@ -67,7 +77,8 @@ fn is_carried_out(chain: &mut Chain, buf: &MicroBuf, first: usize, clips: bool) 
         clip: false,
     };
     replay(chain, &mut control, buf, first as u32);
-    control.num == NUMBER && control.clip == clips
+    let left = control.num == NUMBER || !ops[..first].iter().all(leaves_number);
+    left && control.clip == clips
 }
 
 /// What the first operations of a list cost, in searches, updates and passes, or `None` where they leave other words than

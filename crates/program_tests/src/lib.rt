@@ -1,6 +1,6 @@
-//! Tests of lists of micro-operations, of what generators and plans append to them, and of runs of the machine, all worked
-//! out by hand. They use public calls alone, so they stand in a crate of their own: a change of a test does not prove what
-//! it tests again.
+//! Tests of lists of micro-operations, of what generators and plans append to them, of elements that are moved without a
+//! program, and of runs of the machine, all worked out by hand. They use public calls alone, so they stand in a crate of their
+//! own: a change of a test does not prove what it tests again.
 #![tactic(auto)]
 
 #[cfg(test)]
@@ -14,7 +14,11 @@ mod kinds;
 #[cfg(test)]
 mod lists;
 #[cfg(test)]
+mod mask_plans;
+#[cfg(test)]
 mod operations;
+#[cfg(test)]
+mod permutations;
 #[cfg(test)]
 mod pieces;
 #[cfg(test)]

@@ -4,7 +4,7 @@ use micro_ir::MicroBuf;
 use rvv_decode::decode_v;
 use std::alloc::Global;
 use std::test::Fail;
-use vec_exec::{built, engine, plan};
+use vec_exec::{engine, plan};
 use vtype_cfg::{Cfg, Policy, Vtype, legal};
 
 // The length of a register, and the columns that hold it.
@@ -34,7 +34,7 @@ pub(crate) struct Row {
 }
 
 // The program of the row's word.
-#[tactic(auto, using(vec_exec::proofs::Computed::engine_computed), unfolding(vtype_cfg::specs::Settings::is_valid, vtype_cfg::specs::Settings::is_legal_vlen, vtype_cfg::specs::Settings::legal_vlens))]
+#[tactic(auto, unfolding(vtype_cfg::specs::Settings::is_valid, vtype_cfg::specs::Settings::is_legal_vlen, vtype_cfg::specs::Settings::legal_vlens))]
 fn program_of(alloc: Global, row: &Row) -> Result<MicroBuf, Fail> {
     let vtype = Vtype::from_bits(row.vtype);
     if row.vl > vtype.vlmax(VLEN) || row.vxrm > LAST_MODE {
@@ -49,7 +49,7 @@ fn program_of(alloc: Global, row: &Row) -> Result<MicroBuf, Fail> {
         policy: row.policy,
     };
     let i = decode_v(row.word).ok_or("a vector word")?;
-    if !engine(&i) || !built(&i) {
+    if !engine(&i) {
         return Err("an instruction with a program".into());
     }
     if !legal(&i, &cfg.vtype, cfg.vstart, cfg.vlen) {

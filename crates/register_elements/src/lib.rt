@@ -12,12 +12,36 @@ use cam_chain::Chain;
 // The bytes of a column of a register.
 const WORD_BYTES: u32 = 4;
 
+// The bits of a column of a register.
+const WORD_BITS: u32 = 32;
+
+/// Bit `e` of a register, where `e` is below the bits of a register.
+pub fn register_bit(chain: &Chain, register: u8, e: u32) -> bool
+    requires register { register < 32 }
+    requires place { e < 32 * chain.now.columns }
+    ensures { result ≡ mask_bit_of (registers_of (slices_of chain.now)) register e }
+{
+    chain.bit((e % WORD_BITS) as u8, register, e / WORD_BITS)
+}
+
 /// Bit `e` of v0, where `e` is below the bits of a register.
 pub fn mask_bit(chain: &Chain, e: u32) -> bool
     requires { e < 32 * chain.now.columns }
     ensures { result ≡ mask_bit_of (registers_of (slices_of chain.now)) 0 e }
 {
-    chain.bit((e % 32) as u8, 0, e / 32)
+    register_bit(chain, 0, e)
+}
+
+/// The largest number of so many bytes, which are 1, 2 or 4.
+pub fn all_ones(size: u32) -> u32
+    requires { IsSize size }
+    ensures { result ≡ 2 ^ (8 * size) - 1 }
+{
+    match size {
+        1 => 0xff,
+        2 => 0xffff,
+        _ => 0xffff_ffff,
+    }
 }
 
 // The number of `size` bytes of a word from byte `from` on.

@@ -58,7 +58,6 @@ pub fn report_line(answer: Step, retired: u64) -> LineBuf
             line.push_str("cape: step limit");
             push_after(&mut line, retired);
         }
-        Step::Unbuilt => line.push_str("cape: unbuilt\n"),
     }
     line
 }

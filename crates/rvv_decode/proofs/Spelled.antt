@@ -1,5 +1,5 @@
 -- The fields of the instruction that a word means are in range, and give the word back.
-use Rattle.std.proofs.Common.{◌≡◌, ℕ, ◌+◌, ◌*◌, ◌-◌, ◌/◌, ◌%◌, ◌^◌, ◌<◌, ◌⊎◌, Bool, true, false, Option, Some, None, refl, sym, ◌∙◌, ap, subst, arith, rules}
+use Rattle.std.proofs.Common.{◌≡◌, ℕ, ◌+◌, ◌*◌, ◌-◌, ◌/◌, ◌%◌, ◌^◌, ◌<◌, ◌⊎◌, Bool, true, false, not, Option, Some, None, refl, sym, ◌∙◌, ap, subst, arith, rules}
 use Rattle.std.specs.Prelude.{bit_and, ◌==◌, ◌&&◌, ◌||◌, IfSome}
 use Rattle.std.specs.List.{list_all}
 use Rattle.std.specs.Int.{from_bool}
@@ -16,8 +16,10 @@ use Rattle.rvv_decode.specs.OpmRows.{opm_rows, opm_funct3}
 use Rattle.rvv_decode.specs.ConfigRows.{config_rows}
 use Rattle.rvv_decode.specs.MemoryRows.{load_rows, store_rows}
 use Rattle.rvv_decode.specs.Rows.{rows, means, HasWord}
-use Rattle.rvv_decode.specs.Ranges.{IsInRange, IsAccess}
+use Rattle.rvv_decode.specs.Ranges.{IsInRange, IsAccess, has_vectors_alone}
 use Rattle.rvv_decode.specs.Spelling.{opi_funct6, opm_funct6, arithmetic_fixed, memory_fixed, config_fixed, placed, spelled, FitsName}
+use Rattle.rvv_decode.specs.declared.instruction.Form.{Form}
+use Rattle.rvv_decode.specs.declared.instruction.Form.TheVariants.{V, X, I}
 use Rattle.rvv_decode.specs.declared.instruction.VInstr.{VInstr}
 use Rattle.rvv_decode.specs.declared.instruction.MemoryOp.{MemoryOp}
 use Rattle.rvv_decode.specs.declared.instruction.VOp.{VOp}
@@ -55,10 +57,19 @@ whole immediate_type op w h = grind (arith, common_steps, and-field 31 1 0x707f 
 whole both_immediate op w h = grind (arith, common_steps, and-field 30 2 0x707f w (omega arith), and-field 12 3 0x7f (w % 2 ^ 30) (omega arith), and_mask (w % 2 ^ 30 % 2 ^ 12) 7)
 whole both_registers op w h = grind (arith, common_steps, and-field 25 7 0x707f w (omega arith), and-field 12 3 0x7f (w % 2 ^ 25) (omega arith), and_mask (w % 2 ^ 25 % 2 ^ 12) 7)
 
+-- an operation has this form
+abbrev is_vector : Form → Bool
+is_vector V = true
+is_vector X = false
+is_vector I = false
+
+abbrev has_form : VOp → Form → Bool
+has_form op form = not (has_vectors_alone op) || is_vector form
+
 -- an operation has this layout
 abbrev suits : VOp → Layout → Bool
-suits (Opi op) (arithmetic form) = true
-suits (Opm op) (arithmetic form) = true
+suits (Opi op) (arithmetic form) = has_form (Opi op) form
+suits (Opm op) (arithmetic form) = has_form (Opm op) form
 suits (Memory op) (memory eew) = eew == 8 || (eew == 16 || eew == 32)
 suits (Config Vsetvli) immediate_type = true
 suits (Config Vsetivli) both_immediate = true
@@ -113,6 +124,11 @@ no-access i other op e = absurd (false≢true (sym other ∙ ap is_memory e))
 access-width : (eew : ℕ) → (eew == 8 || (eew == 16 || eew == 32)) ≡ true → (eew ≡ 8) ⊎ ((eew ≡ 16) ⊎ (eew ≡ 32))
 access-width eew e = grind (arith, common_steps)
 
+in-form : (op : VOp) (form : Form) → has_form op form ≡ true → has_vectors_alone op ≡ true → form ≡ V
+in-form op V e alone = refl
+in-form op X e alone = absurd (false≢true (rw alone at e))
+in-form op I e alone = absurd (false≢true (rw alone at e))
+
 memory-access : (op : VOp) (eew w : ℕ) → (eew == 8 || (eew == 16 || eew == 32)) ≡ true → IsAccess (instruction (memory eew) op w)
 memory-access op eew w e = record { some = omega arith; eew = access-width eew e }
 
@@ -120,8 +136,8 @@ eew-range : (eew : ℕ) → (eew == 8 || (eew == 16 || eew == 32)) ≡ true → 
 eew-range eew e = grind (arith, common_steps)
 
 read_row : (op : VOp) (l : Layout) (w : ℕ) → suits op l ≡ true → w < 2 ^ 32 → fixed_value op l + placed l (instruction l op w) ≡ w → Read op (instruction l op w) w
-read_row (Opi op) (arithmetic form) w e h s = record { word = s; name = tt; range = search (rules, no-access (instruction (arithmetic form) (Opi op) w) refl) }
-read_row (Opm op) (arithmetic form) w e h s = record { word = s; name = tt; range = search (rules, no-access (instruction (arithmetic form) (Opm op) w) refl) }
+read_row (Opi op) (arithmetic form) w e h s = record { word = s; name = tt; range = search (rules, in-form (Opi op) form e, no-access (instruction (arithmetic form) (Opi op) w) refl) }
+read_row (Opm op) (arithmetic form) w e h s = record { word = s; name = tt; range = search (rules, in-form (Opm op) form e, no-access (instruction (arithmetic form) (Opm op) w) refl) }
 read_row (Memory op) (memory eew) w e h s = record { word = s; name = omega arith; range = search (rules, eew-range eew e, memory-access (Memory op) eew w e) }
 read_row (Config Vsetvli) immediate_type w e h s = record { word = s; name = tt; range = search (rules, no-access (instruction immediate_type (Config Vsetvli) w) refl) }
 read_row (Config Vsetivli) both_immediate w e h s = record { word = s; name = omega arith; range = search (rules, no-access (instruction both_immediate (Config Vsetivli) w) refl) }

@@ -15,14 +15,14 @@ use Rattle.vtype_cfg.specs.Legality.{is_legal}
 use Rattle.vtype_cfg.specs.Settings.{vtype_of}
 use Rattle.rvv_meaning.specs.declared.Meaning.TheVariants.{Scalar, Vector}
 use Rattle.rvv_meaning.specs.declared.Mode.{Mode}
-use Rattle.rvv_meaning.specs.declared.Mode.TheVariants.{Running, Exited, Trapped, Unbuilt}
+use Rattle.rvv_meaning.specs.declared.Mode.TheVariants.{Running, Exited, Trapped}
 use Rattle.rvv_meaning.specs.declared.Next.{Next}
 use Rattle.rvv_meaning.specs.declared.Next.TheVariants.{Stop, Perform}
 use Rattle.rvv_meaning.specs.declared.Flow.{Flow}
 use Rattle.rvv_meaning.specs.declared.Flow.TheVariants.{Next as GoesOn, Jump, Call as Calls, Trap as Traps}
 use Rattle.rvv_meaning.specs.declared.Csrs.{Csrs}
 use Rattle.rvv_meaning.specs.Elementwise.{cfg_of, is_ones}
-use Rattle.rvv_meaning.specs.Vectors.{VectorEffect, vector_effect, is_built}
+use Rattle.rvv_meaning.specs.Vectors.{VectorEffect, vector_effect}
 use Rattle.rvv_meaning.specs.Scalar.{Effect, executed, illegal_instruction}
 use Rattle.rvv_meaning.specs.Calls.{named_call, exit_code, asked_by, put_by, regs_after, memory_after}
 
@@ -74,12 +74,12 @@ abbrev pub fetch_fault : ℕ
 fetch_fault = 1
 
 -- what comes of a word that is no scalar instruction, and means this vector instruction or none: the instruction must be
--- legal, and be built
+-- legal
 abbrev pub next_vector : Core → ℕ → Option VInstr → Next
 next_vector c word None = Stop (trap illegal_instruction word c)
 next_vector c word (Some i) =
     if is_legal i (vtype_at c) c.csrs.vstart
-    then (if is_built i.op then Perform (Vector i) else Stop Unbuilt)
+    then Perform (Vector i)
     else Stop (trap illegal_instruction word c)
 
 -- what comes of a word that means this scalar instruction or none
@@ -215,7 +215,6 @@ abbrev pub is_running : Mode → Bool
 is_running Running = true
 is_running (Exited c) = false
 is_running (Trapped t) = false
-is_running Unbuilt = false
 
 -- up to n steps, as long as the machine runs
 unfoldable pub run : State → ℕ → State

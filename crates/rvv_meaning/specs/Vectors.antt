@@ -63,7 +63,7 @@ abbrev pub scalar_operand : VInstr → List ℕ → ℕ
 scalar_operand i regs = scalar_in_form i.form i regs
 
 -- What an instruction leaves of these registers: by its operation on elements at the same place, or as a whole, for which it
--- plays no part what becomes of agnostic elements. None is left of an instruction that is not built.
+-- plays no part what becomes of agnostic elements. None is left of a configuration, a load or a store.
 abbrev pub left_as : Option Operation → Option Leaving → VInstr → Cfg → (scalar : ℕ) → (vectors : List (List ℕ)) → Option Left
 left_as (Some o) whole i c scalar vectors = Some (elements (on_elements i c scalar o))
 left_as None whole i c scalar vectors = option_map (λ leaving. leaving i (record c { policy = Kept }) scalar vectors) whole
@@ -74,15 +74,11 @@ left_by op i c scalar vectors = left_as (operation_for op) (whole_for op) i c sc
 abbrev pub left_of : VInstr → Cfg → (scalar : ℕ) → (vectors : List (List ℕ)) → Option Left
 left_of i c scalar vectors = left_by i.op i c scalar vectors
 
--- whether an instruction is built that computes from the vector registers
+-- whether an instruction computes from the vector registers: all but configurations, loads and stores
 abbrev pub is_computed : VOp → Bool
-is_computed op = is_some (operation_for op) || is_some (whole_for op)
-
--- whether an instruction is built
-abbrev pub is_built : VOp → Bool
-is_built (Config op) = true
-is_built (Moves op) = true
-is_built op = is_computed op
+is_computed (Config op) = false
+is_computed (Moves op) = false
+is_computed op = true
 
 -- What an instruction finds: its place, the scalar registers, the control registers, the memory, the vector registers, and
 -- what becomes of agnostic elements.
@@ -141,7 +137,7 @@ module _ (i : VInstr) (pc : ℕ) (regs : List ℕ) (csrs : Csrs) (mem : Memory) 
     vectors = access_outcome.vectors;
   }
 
-  -- an instruction that is not built: no step carries one out
+  -- what an instruction leaves that leaves nothing: there is none
   abbrev pub no_effect : VectorEffect
   no_effect = record { flow = Next; regs = regs; csrs = csrs; mem = mem; vectors = λ ones. vectors }
 

@@ -12,9 +12,9 @@ use Rattle.rvv_decode.specs.declared.instruction.VOp.TheVariants.{Opi, Opm}
 use Rattle.rvv_decode.specs.declared.instruction.Form.{Form}
 use Rattle.rvv_decode.specs.declared.instruction.Form.TheVariants.{V, X, I}
 use Rattle.rvv_decode.specs.declared.instruction.OpiOp.{OpiOp}
-use Rattle.rvv_decode.specs.declared.instruction.OpiOp.TheVariants.{Vwredsumu, Vwredsum}
+use Rattle.rvv_decode.specs.declared.instruction.OpiOp.TheVariants.{Vslideup, Vslidedown, Vrgather, Vrgatherei16, VmvWhole, Vwredsumu, Vwredsum}
 use Rattle.rvv_decode.specs.declared.instruction.OpmOp.{OpmOp}
-use Rattle.rvv_decode.specs.declared.instruction.OpmOp.TheVariants.{Vredsum, Vredand, Vredor, Vredxor, Vredminu, Vredmin, Vredmaxu, Vredmax, VmvXS, Vcpop, Vfirst, Vid, Vmand, Vmnand, Vmandn, Vmor, Vmnor, Vmorn, Vmxor, Vmxnor, Vmsbf, Vmsif, Vmsof}
+use Rattle.rvv_decode.specs.declared.instruction.OpmOp.TheVariants.{Vredsum, Vredand, Vredor, Vredxor, Vredminu, Vredmin, Vredmaxu, Vredmax, Vslide1up, Vslide1down, VmvXS, VmvSX, Vcpop, Vfirst, Vmsbf, Vmsif, Vmsof, Viota, Vid, Vcompress, Vmand, Vmnand, Vmandn, Vmor, Vmnor, Vmorn, Vmxor, Vmxnor}
 use Rattle.vtype_cfg.specs.declared.configuration.Cfg.{Cfg}
 use Rattle.vtype_cfg.specs.Classes.{group as group_place, count_at}
 use Rattle.vtype_cfg.specs.Settings.{vlmax}
@@ -248,9 +248,13 @@ makes_number (Opm Vfirst) = true
 makes_number (Opm VmvXS) = true
 makes_number op = false
 
--- the instructions of this kind that are built
+-- the instructions of this kind
 unfoldable pub whole_for : VOp → Option Leaving
-whole_for (Opm VmvXS) = Some first_element
+whole_for (Opi Vslideup) = Some slid_up
+whole_for (Opi Vslidedown) = Some slid_down
+whole_for (Opi Vrgather) = Some gathered_by_index
+whole_for (Opi Vrgatherei16) = Some gathered_by_sixteen
+whole_for (Opi VmvWhole) = Some moved_whole
 whole_for (Opi Vwredsumu) = Some (λ i c x v. wide_sum i c x v false)
 whole_for (Opi Vwredsum) = Some (λ i c x v. wide_sum i c x v true)
 whole_for (Opm Vredsum) = Some (λ i c x v. reduced i c x v vadd)
@@ -261,9 +265,18 @@ whole_for (Opm Vredminu) = Some (λ i c x v. reduced i c x v vminu)
 whole_for (Opm Vredmin) = Some (λ i c x v. reduced i c x v vmin)
 whole_for (Opm Vredmaxu) = Some (λ i c x v. reduced i c x v vmaxu)
 whole_for (Opm Vredmax) = Some (λ i c x v. reduced i c x v vmax)
+whole_for (Opm Vslide1up) = Some slid_up_by_one
+whole_for (Opm Vslide1down) = Some slid_down_by_one
+whole_for (Opm VmvXS) = Some first_element
+whole_for (Opm VmvSX) = Some scalar_in_first
 whole_for (Opm Vcpop) = Some set_count
 whole_for (Opm Vfirst) = Some first_set
+whole_for (Opm Vmsbf) = Some before_first
+whole_for (Opm Vmsif) = Some up_to_first
+whole_for (Opm Vmsof) = Some only_first
+whole_for (Opm Viota) = Some set_below
 whole_for (Opm Vid) = Some element_numbers
+whole_for (Opm Vcompress) = Some compressed
 whole_for (Opm Vmand) = Some (λ i c x v. mask_logic i c x v (λ a b. a && b))
 whole_for (Opm Vmnand) = Some (λ i c x v. mask_logic i c x v (λ a b. not (a && b)))
 whole_for (Opm Vmandn) = Some (λ i c x v. mask_logic i c x v (λ a b. a && not b))
@@ -272,7 +285,4 @@ whole_for (Opm Vmnor) = Some (λ i c x v. mask_logic i c x v (λ a b. not (a || 
 whole_for (Opm Vmorn) = Some (λ i c x v. mask_logic i c x v (λ a b. a || not b))
 whole_for (Opm Vmxor) = Some (λ i c x v. mask_logic i c x v (λ a b. cond a (not b) b))
 whole_for (Opm Vmxnor) = Some (λ i c x v. mask_logic i c x v (λ a b. not (cond a (not b) b)))
-whole_for (Opm Vmsbf) = Some before_first
-whole_for (Opm Vmsif) = Some up_to_first
-whole_for (Opm Vmsof) = Some only_first
 whole_for _ = None

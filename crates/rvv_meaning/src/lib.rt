@@ -3,10 +3,12 @@
 #![tactic(auto)]
 
 mod accesses;
+mod policies;
 mod readers;
 
 pub use accesses::{Access, Offset};
 use guest_mem::Trap;
+pub use policies::{fills_masked, makes_ones};
 pub use readers::{el, mask_bit};
 use rv32_decode::Instr;
 use rvv_decode::VInstr;
@@ -19,14 +21,12 @@ pub enum Meaning {
     Vector(VInstr),
 }
 
-/// Whether a machine runs, and how it ended. `Unbuilt` is the end at an instruction that this simulator does not
-/// build yet.
+/// Whether a machine runs, and how it ended.
 #[derive(Clone, Copy, Debug, PartialEq, Eq)]
 pub enum Mode {
     Running,
     Exited(u8),
     Trapped(Trap),
-    Unbuilt,
 }
 
 /// What comes at pc: the machine stops there in a mode, or an instruction is to be carried out.

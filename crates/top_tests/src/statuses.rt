@@ -19,10 +19,6 @@ const ROWS: [Row; 10] = [
         code: 7,
     },
     Row {
-        status: Status::Unbuilt,
-        code: 120,
-    },
-    Row {
         status: Status::Trapped,
         code: 121,
     },

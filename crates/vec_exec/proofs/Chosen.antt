@@ -20,7 +20,7 @@ use Rattle.rvv_meaning.specs.Elementwise.{Elementwise, clips_below, clips as cli
 use Rattle.rvv_meaning.specs.Operations.{Operation, on_elements, elements_at, reads_mask, log2}
 use Rattle.frame_laws.specs.Classes.Operands.{row_of, is_laid_out_in}
 use Rattle.frame_laws.specs.Classes.Plain.{AllCompute, AllClip}
-use Rattle.frame_laws.specs.Classes.Halved.{AllLeave, AllFlag, LeavesFlag}
+use Rattle.frame_laws.specs.Classes.Halved.{AllLeave, AllFlag}
 use Rattle.frame_laws.specs.Classes.Compared.{AllTell}
 use Rattle.frame_laws.specs.Programs.{program, first_registers, one_register}
 use Rattle.frame_laws.specs.Shapes.{Shape, usual_bounds}

@@ -1,5 +1,5 @@
 -- A shift that rounds, and then a clip of its results: together they leave the value of a narrowing clip, and tell where it clips.
-use Rattle.std.proofs.Common.{◌≡◌, ℕ, zero, suc, ◌+◌, ◌-◌, ◌*◌, ◌/◌, ◌%◌, ◌^◌, ◌<◌, ◌≤◌, Bool, true, false, cond, List, ℤ, pos, refl, sym, ◌∙◌, ap, arith}
+use Rattle.std.proofs.Common.{◌≡◌, ℕ, zero, suc, ◌-◌, ◌*◌, ◌/◌, ◌%◌, ◌^◌, ◌<◌, ◌≤◌, Bool, true, false, cond, List, ℤ, pos, refl, sym, ◌∙◌, ap, arith}
 use Rattle.std.proofs.Math.Nat.{add-mul-mod_self_right}
 use Rattle.std.proofs.Math.Pow.{pow_mono, pow_pos}
 use Rattle.bit_laws.specs.Numbers.{number, low, bit_of}
@@ -8,13 +8,13 @@ use Rattle.bit_laws.specs.Signed.{signed}
 use Rattle.bit_laws.proofs.Ints.{int-low, low-small}
 use Rattle.bit_laws.proofs.Numbers.{bit-number, number-lt}
 use Rattle.frame_laws.specs.Classes.Halved.{LeavesLow, LeavesFlag}
-use Rattle.gen_fixed.specs.Kinds.{clip_value, clip_tells, clip_left, clip_flag, clip_ops}
+use Rattle.gen_fixed.specs.Kinds.{clip_value, clip_tells, clip_left, clip_flag}
 use Rattle.gen_fixed.specs.Laws.{LeavesClipped, LeavesFlag as LeavesFlags, clip_rows}
 use Rattle.gen_fixed.specs.Lists.{overflow_row, clipped_row}
 use Rattle.gen_fixed.specs.declared.kinds.Clipping.{Clipping}
 use Rattle.gen_fixed.specs.declared.kinds.Clipping.TheVariants.{Clipu, Clip}
 use Rattle.gen_fixed.proofs.Composed.{leaves-then}
-use Rattle.gen_shift.specs.Kinds.{rounded_value, rounding_ops}
+use Rattle.gen_shift.specs.Kinds.{rounded_value}
 use Rattle.gen_shift.specs.Laws.{LeavesRounded, LeavesValue}
 use Rattle.gen_shift.specs.Rows.{rounded_row, rounding_rows}
 use Rattle.gen_shift.specs.declared.kinds.Shift.TheVariants.{Srl, Sra}

@@ -1,6 +1,5 @@
 -- The lists of each recipe compute the value, or tell the truth, of its operation.
 use Rattle.std.proofs.Common.{◌≡◌, ℕ, ◌+◌, ◌-◌, ◌*◌, ◌^◌, Bool, true, false, cond, leb, ltb, Option, Some, None, refl, ap, arith, mul_comm}
-use Rattle.std.specs.Prelude.{is_some}
 use Rattle.rvv_decode.specs.declared.instruction.OpiOp.TheVariants.{Vadd, Vsub, Vrsub, Vadc, Vsbc, Vmadc, Vmsbc, Vand, Vor, Vxor, Vsll, Vsrl, Vsra, Vmseq, Vmsne, Vmsltu, Vmslt, Vmsleu, Vmsle, Vmsgtu, Vmsgt, Vminu, Vmin, Vmaxu, Vmax, Vmerge, VmvV, Vnsrl, Vnsra, Vnclipu, Vnclip, Vsaddu, Vsadd, Vssubu, Vssub, Vsmul, Vssrl, Vssra}
 use Rattle.rvv_decode.specs.declared.instruction.OpmOp.TheVariants.{Vdivu, Vdiv, Vremu, Vrem, Vmulhu, Vmul, Vmulhsu, Vmulh, Vmadd, Vnmsub, Vmacc, Vnmsac, VzextVf2, VzextVf4, VsextVf2, VsextVf4, Vwaddu, Vwadd, Vwsubu, Vwsub, VwadduW, VwaddW, VwsubuW, VwsubW, Vwmulu, Vwmulsu, Vwmul, Vwmaccu, Vwmacc, Vwmaccus, Vwmaccsu, Vaaddu, Vaadd, Vasubu, Vasub}
 use Rattle.rvv_decode.specs.declared.instruction.VOp.{VOp}
@@ -224,16 +223,6 @@ fits (Config _) = tt
 fits (Memory _) = tt
 
 -- ---- what they say together
-
--- an operation has a recipe where its meaning stands
-pub recipe-when-built : (op : VOp) → is_some (recipe_for op) ≡ is_some (operation_for op)
-recipe-when-built op = alike (recipe_for op) (operation_for op) (fits op)
-  where
-    alike : (r : Option Recipe) (o : Option Operation) → FitsIf op r o → is_some r ≡ is_some o
-    alike None None h = refl
-    alike (Some r) (Some o) h = refl
-    alike (Some r) None h = absurd h
-    alike None (Some o) h = absurd h
 
 -- the operation of a recipe
 pub record Fitted (op : VOp) (r : Recipe) : Type 0 where

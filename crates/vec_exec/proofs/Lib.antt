@@ -4,6 +4,7 @@ pub mod Copied
 pub mod RoundedRange
 pub mod Fits
 pub mod Computed
+pub mod Permuted
 pub mod Written
 pub mod Keeping
 pub mod Placed

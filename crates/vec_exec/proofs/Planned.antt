@@ -310,7 +310,7 @@ unfolding cost
 cost-is r i c named = rw named refl
 
 -- those of one that reads whole groups or masks
-pub whole-prog : (i : VInstr) (c : Cfg) (x : ℕ) → recipe_for i.op ≡ None → prog i c x ≡ whole_program i c
+pub whole-prog : (i : VInstr) (c : Cfg) (x : ℕ) → recipe_for i.op ≡ None → prog i c x ≡ whole_program i c x
 unfolding prog
 whole-prog i c x none = rw none refl
 

@@ -285,16 +285,23 @@ module _ (r : Recipe) (i : VInstr) (c : Cfg) where
       cond (makes_bits r.masked) (compare_cost_of i c (counts_of (list_for r i) c.vtype.sew 0))
       (cond (makes_halves r.masked) (cost_of i c (registers_for c.vtype c.vtype.sew) half_counts) (cost_of i c (count_of r c) body_counts))
 
--- the program of an instruction that reads whole groups or masks, and what it costs
-abbrev pub whole_program : VInstr → Cfg → List MicroOp
-whole_program i c = option_map_or (λ kind. move_program kind i c) (kind_for i.op) (option_map_or (λ kind. fold_program kind i c) (fold_for i.op) [])
+-- the program of an instruction that makes one number of a whole group or a whole mask, and what it costs
+abbrev pub number_program : VInstr → Cfg → List MicroOp
+number_program i c = option_map_or (λ kind. fold_program kind i c) (fold_for i.op) []
+
+abbrev pub number_cost : VInstr → Cfg → Counts
+number_cost i c = option_map_or (λ kind. fold_cost kind i c) (fold_for i.op) no_counts
+
+-- those of an instruction that reads whole groups or masks
+abbrev pub whole_program : VInstr → Cfg → (scalar : ℕ) → List MicroOp
+whole_program i c x = option_map_or (λ kind. move_program kind i c x) (kind_for i.op) (number_program i c)
 
 abbrev pub whole_cost : VInstr → Cfg → Counts
-whole_cost i c = option_map_or (λ kind. move_cost kind i c) (kind_for i.op) (option_map_or (λ kind. fold_cost kind i c) (fold_for i.op) no_counts)
+whole_cost i c = option_map_or (λ kind. move_cost kind i c) (kind_for i.op) (number_cost i c)
 
--- the program of an instruction, of those that are built
+-- the program of an instruction that has one
 unfoldable pub prog : VInstr → Cfg → (scalar : ℕ) → List MicroOp
-prog i c x = option_map_or (λ r. program_by r i c x) (recipe_for i.op) (whole_program i c)
+prog i c x = option_map_or (λ r. program_by r i c x) (recipe_for i.op) (whole_program i c x)
 
 -- The searches, updates and passes of the program of an instruction: of its scalar; for each register of the destination of
 -- the kind and, where agnostic elements become ones, of the fill; but one fill where the result is a mask.

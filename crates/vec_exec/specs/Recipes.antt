@@ -72,7 +72,7 @@ on_signed list order = record (ordered list order) { signs = record { a = true; 
 abbrev pub widened : Listed → (a b : Bool) → Recipe
 widened list a b = record (ordered list Widening) { signs = record { a = a; b = b; immediate = true } }
 
--- the recipe of each operation that is built
+-- the recipe of each operation on elements at the same place
 unfoldable pub recipe_for : VOp → Option Recipe
 recipe_for (Opi Vadd) = Some (of_two (Sums Add))
 recipe_for (Opi Vsub) = Some (of_two (Sums Sub))

@@ -10,4 +10,4 @@ mod recipes;
 mod registers;
 
 pub use moving::permute;
-pub use planning::{built, engine, plan};
+pub use planning::{engine, plan};

@@ -15,10 +15,10 @@ use rvv_decode::VInstr;
 use vtype_cfg::Cfg;
 
 /// Moves elements of the vector registers, which the chain holds, for an instruction that has no program: `vrgather.vv`,
-/// `vrgatherei16`, `vcompress` or `viota`. The instruction is legal under the configuration, and built. No search or update is
+/// `vrgatherei16`, `vcompress` or `viota`. The instruction is legal under the configuration. No search or update is
 /// made, and rows of work, tags and counts stay.
 pub fn permute(i: &VInstr, cfg: &Cfg, chain: &mut Chain)
-    requires built { is_computed i.now.op ≡ true }
+    requires computes { is_computed i.now.op ≡ true }
     requires apart { is_engine i.now ≡ false }
     requires registers { makes_number i.now.op ≡ false }
     requires fields { IsInRange i.now }
@@ -30,5 +30,5 @@ pub fn permute(i: &VInstr, cfg: &Cfg, chain: &mut Chain)
     ensures columns { chain.new.columns ≡ chain.old.columns }
     ensures counts { chain.new.counts ≡ chain.old.counts }
 {
-    unreachable!()
+    element_moves::permute(i, cfg, chain);
 }

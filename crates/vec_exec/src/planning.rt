@@ -1,19 +1,16 @@
 // The plan of an instruction.
-ghost use Rattle.std.specs.Prelude.{◌≡◌, ℕ, ◌+◌, ◌*◌, ◌/◌, ◌<◌, ◌≤◌, ◌++◌, [], Some, None, length, true, false, cond, not, ◌||◌, IsTrue, is_some};
+ghost use Rattle.std.specs.Prelude.{◌≡◌, ℕ, ◌+◌, ◌*◌, ◌/◌, ◌<◌, ◌≤◌, ◌++◌, [], Some, None, length, true, false, cond, not, IsTrue, is_some};
 ghost use Rattle.micro_ir.specs.Replay.{AllInRange, tally};
 ghost use Rattle.rvv_decode.specs.Ranges.{IsInRange};
 ghost use Rattle.vtype_cfg.specs.Legality.{is_legal};
 ghost use Rattle.vtype_cfg.specs.Settings.{is_valid};
 ghost use Rattle.legal_groups.specs.Facts.{registers_for};
-ghost use Rattle.rvv_meaning.specs.Vectors.{is_built, is_computed};
-ghost use Rattle.rvv_meaning.specs.Whole.{whole_for};
 ghost use Rattle.frame_meaning.specs.Realising.{RealisesInstruction};
 ghost use Rattle.frame_meaning.specs.Shapes.{has_scalar};
 ghost use Rattle.vec_exec.specs.Recipes.{recipe_for};
 ghost use Rattle.vec_exec.specs.Recipes as lists;
 ghost use Rattle.fold_exec.specs.Kinds.{kind_for as fold_for};
-ghost use Rattle.move_exec.specs.Kinds.{kind_for};
-ghost use Rattle.vec_exec.specs.Programs.{prog, whole_program, whole_cost, program_by, is_engine, cost, cost_by, scalar_list, width_of};
+ghost use Rattle.vec_exec.specs.Programs.{prog, number_program, number_cost, whole_program, whole_cost, program_by, is_engine, cost, cost_by, scalar_list, width_of};
 
 use crate::halves::emit_half_registers;
 use crate::operands::{EIGHTHS, at_rows, half_scalar_number, scalar_number, width};
@@ -53,43 +50,6 @@ fn registers(cfg: &Cfg, width: u8) -> u8
 {
     let eighths = u32::from(cfg.vtype.lmul8) * u32::from(width) / u32::from(cfg.vtype.sew);
     (eighths / u32::from(EIGHTHS)).max(1) as u8
-}
-
-// Whether an instruction is built that reads a whole group or a whole mask.
-#[tactic(auto, unfolding(rvv_meaning::specs::Whole::whole_for))]
-const fn is_whole(op: VOp) -> bool
-    ensures { result ≡ is_some (whole_for op) }
-{
-    match op {
-        VOp::Opm(OpmOp::VmvXS | OpmOp::Vid) => true,
-        VOp::Opm(OpmOp::Vmand | OpmOp::Vmnand | OpmOp::Vmandn) => true,
-        VOp::Opm(OpmOp::Vmor | OpmOp::Vmnor | OpmOp::Vmorn) => true,
-        VOp::Opm(OpmOp::Vmxor | OpmOp::Vmxnor) => true,
-        VOp::Opm(OpmOp::Vmsbf | OpmOp::Vmsif | OpmOp::Vmsof) => true,
-        VOp::Opm(OpmOp::Vcpop | OpmOp::Vfirst) => true,
-        VOp::Opm(OpmOp::Vredsum | OpmOp::Vredand | OpmOp::Vredor | OpmOp::Vredxor) => true,
-        VOp::Opm(OpmOp::Vredminu | OpmOp::Vredmin | OpmOp::Vredmaxu | OpmOp::Vredmax) => true,
-        VOp::Opi(OpiOp::Vwredsumu | OpiOp::Vwredsum) => true,
-        _ => false,
-    }
-}
-
-// Whether an instruction is built that computes from the vector registers.
-fn computed(op: VOp) -> bool
-    ensures { result ≡ is_computed op }
-{
-    recipe_of(op).is_some() || is_whole(op)
-}
-
-/// Whether an instruction is built: one of configuration, a load, a store, one whose operation has a recipe, or one that reads
-/// whole groups or masks.
-pub fn built(i: &VInstr) -> bool
-    ensures value { result ≡ is_built i.now.op }
-{
-    match i.op {
-        VOp::Config(_) | VOp::Memory(_) => true,
-        VOp::Opi(_) | VOp::Opm(_) => computed(i.op),
-    }
 }
 
 // The operations that put a number into the scalar's row, where the instruction has a scalar.
@@ -292,16 +252,15 @@ fn emit_program(recipe: Recipe, i: &VInstr, cfg: &Cfg, scalar: u32, buf: &mut Mi
 
 // The program of an instruction that makes one number of a whole group or a whole mask.
 fn emit_fold(i: &VInstr, cfg: &Cfg, buf: &mut MicroBuf)
-    requires moves { kind_for i.now.op ≡ None }
     requires kind { is_some (fold_for i.now.op) ≡ true }
     requires fields { IsInRange i.now }
     requires legal { is_legal i.now cfg.now.vtype cfg.now.vstart ≡ true }
     requires valid { IsTrue (is_valid cfg.now) }
     requires empty { buf.old.ops ≡ [] }
     requires room { buf.old.spare ≡ 262144 }
-    ensures program { buf.new.ops ≡ whole_program i.now cfg.now }
+    ensures program { buf.new.ops ≡ number_program i.now cfg.now }
     ensures realises { (x : ℕ) → RealisesInstruction i.now cfg.now x buf.new.ops }
-    ensures cost { tally buf.new.ops ≡ whole_cost i.now cfg.now }
+    ensures cost { tally buf.new.ops ≡ number_cost i.now cfg.now }
     ensures range { AllInRange (cfg.now.vlen / 32) buf.new.ops }
     ensures spare { buf.new.spare + length buf.new.ops ≡ buf.old.spare }
 {
@@ -312,28 +271,28 @@ fn emit_fold(i: &VInstr, cfg: &Cfg, buf: &mut MicroBuf)
 }
 
 // The program of an instruction that reads whole groups or masks.
-fn emit_whole(i: &VInstr, cfg: &Cfg, buf: &mut MicroBuf)
-    requires kind { (is_some (kind_for i.now.op) || is_some (fold_for i.now.op)) ≡ true }
+fn emit_whole(i: &VInstr, cfg: &Cfg, scalar: u32, buf: &mut MicroBuf)
+    requires engine { is_engine i.now ≡ true }
+    requires none { recipe_for i.now.op ≡ None }
     requires fields { IsInRange i.now }
     requires legal { is_legal i.now cfg.now.vtype cfg.now.vstart ≡ true }
     requires valid { IsTrue (is_valid cfg.now) }
     requires empty { buf.old.ops ≡ [] }
     requires room { buf.old.spare ≡ 262144 }
-    ensures program { buf.new.ops ≡ whole_program i.now cfg.now }
-    ensures realises { (x : ℕ) → RealisesInstruction i.now cfg.now x buf.new.ops }
+    ensures program { buf.new.ops ≡ whole_program i.now cfg.now scalar }
+    ensures realises { RealisesInstruction i.now cfg.now scalar buf.new.ops }
     ensures cost { tally buf.new.ops ≡ whole_cost i.now cfg.now }
     ensures range { AllInRange (cfg.now.vlen / 32) buf.new.ops }
     ensures spare { buf.new.spare + length buf.new.ops ≡ buf.old.spare }
 {
     match move_exec::kind_of(i.op) {
-        Some(kind) => move_exec::plan(kind, i, cfg, buf),
+        Some(kind) => move_exec::plan(kind, i, cfg, scalar, buf),
         None => emit_fold(i, cfg, buf),
     }
 }
 
 // The program of an instruction, by what its operation is.
 fn emit_by_operation(i: &VInstr, cfg: &Cfg, scalar: u32, buf: &mut MicroBuf)
-    requires built { is_computed i.now.op ≡ true }
     requires engine { is_engine i.now ≡ true }
     requires fields { IsInRange i.now }
     requires legal { is_legal i.now cfg.now.vtype cfg.now.vstart ≡ true }
@@ -348,17 +307,16 @@ fn emit_by_operation(i: &VInstr, cfg: &Cfg, scalar: u32, buf: &mut MicroBuf)
 {
     match recipe_of(i.op) {
         Some(recipe) => emit_program(recipe, i, cfg, scalar, buf),
-        None => emit_whole(i, cfg, buf),
+        None => emit_whole(i, cfg, scalar, buf),
     }
 }
 
 /// Writes the program of an instruction into an empty buffer with room for 262,144 operations: its scalar into a row,
 /// where it has one; for each register of its groups, in rising order, its active elements, their mask bits, where the
 /// mask is an operand, and the list of its kind, with what lays its operands out where these are narrower; and what fills the agnostic elements, where these become ones. `scalar` is
-/// the value of x[rs1], where the instruction takes it. The instruction is legal under the configuration, is built, and has
-/// a program.
+/// the value of x[rs1], where the instruction takes it. The instruction is legal under the configuration, and has a
+/// program.
 pub fn plan(i: &VInstr, cfg: &Cfg, scalar: u32, buf: &mut MicroBuf)
-    requires built { is_computed i.now.op ≡ true }
     requires engine { is_engine i.now ≡ true }
     requires fields { IsInRange i.now }
     requires legal { is_legal i.now cfg.now.vtype cfg.now.vstart ≡ true }

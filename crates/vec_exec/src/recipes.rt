@@ -154,7 +154,7 @@ const fn widened(list: Listed, a: bool, b: bool) -> Recipe
     }
 }
 
-/// The recipe of an operation, or `None` where it is not built.
+/// The recipe of an operation, or `None` where its elements are not computed each from those at its place.
 #[tactic(auto, unfolding(crate::specs::Recipes::recipe_for))]
 pub(crate) fn recipe_of(op: VOp) -> Option<Recipe>
     ensures { result ≡ recipe_for op }

@@ -22,7 +22,8 @@ use Rattle.rvv_meaning.specs.VectorAccesses.{access_of, shape_of, trims_of, read
 use Rattle.rvv_meaning.specs.declared.accesses.Access.{Access}
 use Rattle.vec_mem.specs.Resumption.{AsOnce, policy_ones, going_on, GoesOn, ResumeLaw}
 use Rattle.vec_mem.specs.Steps.{Fits, FitsLoad}
-use Rattle.vec_mem.proofs.Legal.{held, access-fits, load-fits}
+use Rattle.legal_groups.proofs.Valid.{held}
+use Rattle.vec_mem.proofs.Legal.{access-fits, load-fits}
 use Rattle.vec_mem.proofs.Loading.{below}
 use Rattle.vec_mem.proofs.Outcomes.{outcome-of-load, outcome-of-store, reads}
 use Rattle.vec_mem.proofs.Resuming.{resumed, loads-resumed}

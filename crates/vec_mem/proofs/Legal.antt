@@ -21,7 +21,8 @@ use Rattle.vtype_cfg.proofs.Supported.{at_supported, vlen_bounded}
 use Rattle.legal_groups.specs.Facts.{IsElementWidth, registers_for, SparesMask, FieldGroups, IndexBeside, IndexRoom, WholeRoom, MaskRoom}
 use Rattle.legal_groups.proofs.Accesses.{legal_access_law}
 use Rattle.legal_groups.proofs.Rules.{in_setting}
-use Rattle.legal_groups.proofs.Widths.{in_force}
+use Rattle.legal_groups.proofs.Valid.{held}
+use Rattle.legal_groups.proofs.Widths.{vlmax-short}
 use Rattle.rvv_meaning.specs.Elementwise.{size_of}
 use Rattle.rvv_meaning.specs.VectorAccesses.{of_elements, of_registers, access_of, shape_of, trims_of, is_store}
 use Rattle.rvv_meaning.specs.declared.accesses.Access.{Access}
@@ -48,14 +49,6 @@ width-from w is =
     is
 
 -- ---- settings
-
--- LMUL, in eighths, is no greater than 8 times SEW
-abbrev is_short : (sew lmul8 : ℕ) → Bool
-is_short sew lmul8 = nat_le lmul8 (8 * sew)
-
-all-short : list_all (λ (s : Setting). is_short s.sew s.lmul8) settings ≡ true
-unfolding settings
-all-short = refl
 
 -- A group with an EMUL of at least 1 is full of the elements up to the greatest vector length, and so is one of elements that
 -- are no narrower.
@@ -105,28 +98,6 @@ whole-count f n x is =
 
 -- ---- configurations
 
--- what holds of a configuration that is valid
-pub record Held (c : Cfg) : Type 0 where
-  pub vlen : IsTrue (is_legal_vlen c.vlen)
-  pub setting : IsTrue (is_vill_or_supported c.vtype)
-  pub length : c.vl ≤ vlmax c.vtype c.vlen
-
-pub held : (c : Cfg) → IsTrue (is_valid c) → Held c
-unfolding is_valid
-held c valid =
-    let a = and_parts _ _ valid in
-    let b = and_parts _ _ a.0 in
-    let d = and_parts _ _ b.0 in
-    let e = and_parts _ _ d.0 in
-    record { vlen = e.0; setting = e.1; length = leb-true _ _ d.1 }
-
--- the elements up to the greatest length are no more than the bits of a register
-vlmax-short : (c : Cfg) → is_supported c.vtype ≡ true → c.vtype.vill ≡ false → vlmax c.vtype c.vlen ≤ c.vlen
-unfolding vlmax
-vlmax-short c supported there =
-    let least : c.vtype.lmul8 ≤ 8 * c.vtype.sew = leb-true _ _ (at_supported is_short c.vtype all-short supported) in
-    rw there (div-le_of_le-mul (8 * c.vtype.sew) (mul-le-mul_right c.vlen least))
-
 none-under_vill : (c : Cfg) → c.vtype.vill ≡ true → vlmax c.vtype c.vlen ≡ 0
 unfolding vlmax
 none-under_vill c none = rw none refl
@@ -137,7 +108,7 @@ length-short c valid =
     let length = all.length in
     ⊎_elim
     (λ (none : c.vtype.vill ≡ true). let zero_length = none-under_vill c none in omega arith)
-    (λ (there : c.vtype.vill ≡ false). let short = vlmax-short c (in_force c.vtype all.setting there) there in omega arith)
+    (λ (there : c.vtype.vill ≡ false). let short = vlmax-short c.vtype c.vlen all.setting there in omega arith)
     (cases_Bool c.vtype.vill)
 
 -- a load or a store that needs a setting has one
@@ -162,8 +133,8 @@ module _ (i : VInstr) (c : Cfg) (n : ℕ) (valid : IsTrue (is_valid c)) (words :
   vlen-least : 32 ≤ c.vlen
   vlen-least = vlen_from c.vlen (held c valid).vlen
 
-  most-short : is_supported c.vtype ≡ true → c.vtype.vill ≡ false → vlmax c.vtype c.vlen ≤ c.vlen
-  most-short supported there = vlmax-short c supported there
+  most-short : c.vtype.vill ≡ false → vlmax c.vtype c.vlen ≤ c.vlen
+  most-short there = vlmax-short c.vtype c.vlen (held c valid).setting there
 
   -- the elements up to the greatest length lie in a group of elements of a width
   most-held : (w : ℕ) → IsElementWidth w → is_supported c.vtype ≡ true → c.vtype.vill ≡ false → vlmax c.vtype c.vlen ≤ registers_for c.vtype w * size_of c / (w / 8)
@@ -194,7 +165,7 @@ module _ (i : VInstr) (c : Cfg) (n : ℕ) (valid : IsTrue (is_valid c)) (words :
         let few = groups.few in
         let room = groups.room in
         let length = (held c valid).length in
-        let short = most-short groups.supported groups.vill in
+        let short = most-short groups.vill in
         let fits = most-held width is groups.supported groups.vill in
         record {
           size = size.0;
@@ -282,8 +253,7 @@ module _ (i : VInstr) (c : Cfg) (n : ℕ) (valid : IsTrue (is_valid c)) (words :
   mask-fits : MaskRoom i c.vtype → Fits c (of_registers i 1 8 ((c.vl + 7) / 8) true)
   mask-fits room =
       let length = (held c valid).length in
-      let there = in_force c.vtype (held c valid).setting room.0 in
-      let short = most-short there room.0 in
+      let short = most-short room.0 in
       registers-fit 1 8 ((c.vl + 7) / 8) true (inl refl) (omega arith) (omega (arith, room.1)) (omega arith) (omega arith)
 
   plain-load : (registers width len : ℕ) (agnostic_tail : Bool) → FitsLoad c (of_registers i registers width len agnostic_tail)

@@ -19,7 +19,8 @@ use Rattle.rvv_meaning.specs.VectorAccesses.{whole, access_of, shape_of, trims_o
 use Rattle.rvv_meaning.specs.declared.accesses.Access.{Access}
 use Rattle.vec_mem.specs.Steps.{Fits}
 use Rattle.vec_mem.proofs.Finding.{find-range}
-use Rattle.vec_mem.proofs.Legal.{held, length-short, has-setting}
+use Rattle.legal_groups.proofs.Valid.{held}
+use Rattle.vec_mem.proofs.Legal.{length-short, has-setting}
 
 -- ---- what the table asks for
 

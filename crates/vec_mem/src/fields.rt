@@ -1,9 +1,8 @@
 // One element at a time, with all its fields.
-ghost use Rattle.std.specs.Prelude.{◌≡◌, ◌+◌, ◌-◌, ◌*◌, ◌/◌, ◌<◌, ◌≤◌, ◌^◌, ◌%◌, ℕ, None, Some, ◌&&◌, IfSome};
+ghost use Rattle.std.specs.Prelude.{◌≡◌, ◌+◌, ◌-◌, ◌*◌, ◌/◌, ◌<◌, ◌≤◌, ◌^◌, ◌%◌, ℕ, None, Some, IfSome};
 ghost use Rattle.cam_chain.specs.ChainValue.{slices_of};
 ghost use Rattle.guest_mem.specs.Pages.{first_bad, loaded};
 ghost use Rattle.vtype_cfg.specs.declared.configuration.Cfg.{Cfg};
-ghost use Rattle.rvv_meaning.specs.Elementwise.{is_ones};
 ghost use Rattle.vec_mem.specs.Steps.{fields_written, values_at, ones_of, Fits, OffsetFits, element_loaded, bad_if_moved};
 ghost use Rattle.rvv_meaning.specs.LoadsAndStores.{field_size as size_of_field, per_field as elements_per_field, is_unmasked as unmasked, address as place_of};
 ghost use Rattle.rvv_meaning.specs.Scalar.Accesses.{to_read};
@@ -15,21 +14,9 @@ use crate::places::{address, field_size, is_unmasked, per_field};
 use bitflags::Flags;
 use cam_chain::Chain;
 use guest_mem::{Mem, Perms};
-use register_elements::{element, mask_bit, set_element};
-use rvv_meaning::Access;
-use vtype_cfg::{Cfg, Policy};
-
-// The largest number of so many bytes.
-fn all_ones(size: u32) -> u32
-    requires { IsSize size }
-    ensures { result ≡ 2 ^ (8 * size) - 1 }
-{
-    match size {
-        1 => 0xff,
-        2 => 0xffff,
-        _ => 0xffff_ffff,
-    }
-}
+use register_elements::{all_ones, set_element};
+use rvv_meaning::{Access, fills_masked};
+use vtype_cfg::Cfg;
 
 // A number of a range that may be read.
 fn number_at(mem: &Mem, address: u32, size: u32) -> u32
@@ -89,23 +76,6 @@ pub(crate) fn fill_fields(chain: &mut Chain, first: u8, fields: u8, size: u32, p
     for f in 0..u32::from(fields) {
         set_element(chain, first, size, f * per + e, ones);
     }
-}
-
-// The policy leaves all ones in agnostic elements.
-pub(crate) fn makes_ones(cfg: &Cfg) -> bool
-    ensures { result ≡ is_ones cfg.now.policy }
-{
-    match cfg.policy {
-        Policy::Keep => false,
-        Policy::Ones => true,
-    }
-}
-
-// Elements that are masked off become all ones.
-fn fills_masked(cfg: &Cfg) -> bool
-    ensures { result ≡ (is_ones cfg.now.policy && cfg.now.vtype.vma) }
-{
-    makes_ones(cfg) && cfg.vtype.vma
 }
 
 // Loads an element, or leaves it as the mask says. Where it cannot be loaded whole it gives the first bad address, and

@@ -10,13 +10,13 @@ ghost use Rattle.vec_mem.specs.Runs.{runs};
 ghost use Rattle.vec_mem.specs.Views.{vectors_of};
 ghost use Rattle.cam_chain.specs.Views.{KeepsRest};
 
-use crate::fields::{fill_fields, load_element, makes_ones};
+use crate::fields::{fill_fields, load_element};
 use crate::places::{field_size, per_field};
 use crate::runs::{RUN_VLEN, is_open_run, load_span};
 use bitflags::Flags;
 use cam_chain::Chain;
 use guest_mem::{Mem, Perms};
-use rvv_meaning::Access;
+use rvv_meaning::{Access, makes_ones};
 use vtype_cfg::Cfg;
 
 /// A load or a store stopped at an element: the cause of the trap, the first bad address, and the element.

@@ -1,4 +1,4 @@
-use Rattle.std.proofs.Common.{ap, Err}
+use Rattle.std.proofs.Common.{ap, Err, refl}
 use Rattle.cape_io.specs.Views.{devices, sink_view, views}
 use Rattle.cape_top.proofs.EndingLemmas.{machine_ended, reads_in, report_fails, run_fails}
 use Rattle.cape_top.proofs.running.run_machine.Goals as goal
@@ -15,7 +15,7 @@ pub returns-in-Ok-write_end-clause-ends : goal.returns-in-Ok-write_end-clause-en
 returns-in-Ok-write_end-clause-ends g c =
     let v = views g.S.Source g.O.Sink g.E.Sink c.args.input.now c.args.out.now c.args.err.now in
     let v' = views g.S.Source g.O.Sink g.E.Sink c.run.new.input c.run.new.out c.run.new.err in
-    machine_ended c.args.options c.args.machine c.run.new.self v v' (sink_view g.E.Sink c.write_end.new.err) c.in-Ok.answer c.in-Ok.ensures.goes c.in-Ok.ensures.live c.in-Ok.ensures.answer _ _ c.status_for.ensures c.keep.ensures c.in-Ok-write_end.ensures.gained
+    machine_ended c.args.options c.args.machine c.run.new.self v v' (sink_view g.E.Sink c.write_end.new.err) c.in-Ok.answer c.in-Ok.ensures.goes c.in-Ok.ensures.live c.in-Ok.ensures.answer _ _ c.status_for.ensures refl c.in-Ok-write_end.ensures.gained
 
 pub returns-clause-ends : goal.returns-clause-ends
 returns-clause-ends g c =

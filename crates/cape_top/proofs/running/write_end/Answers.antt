@@ -9,4 +9,4 @@ returns-in_err-write_line g c =
 
 pub returns : goal.returns
 returns g c =
-    writes_more g.E.Sink _ _ _ _ _ _ (rw (c.report_line.ensures, c.retired.ensures) at c.in_ok-write_line.ensures) c.write_shown_after.ensures
+    writes_more g.E.Sink _ _ _ _ _ _ (rw (c.report_line.ensures, c.retired.ensures) at c.in_ok-write_line.ensures) c.write_shown.ensures

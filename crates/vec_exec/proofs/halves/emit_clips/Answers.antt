@@ -1,7 +1,6 @@
-use Rattle.std.proofs.Common.{◌≡◌, ◌≤◌, ◌+◌, ◌*◌, sym, ◌∙◌, ap, arith, append_assoc}
+use Rattle.std.proofs.Common.{◌≡◌, ◌≤◌, ◌+◌, sym, ◌∙◌, ap, arith, append_assoc}
 use Rattle.gen_fixed.specs.Kinds.{clip_length}
 use Rattle.gen_shift.specs.Kinds.{rounding_length}
-use Rattle.gen_shift.specs.declared.kinds.Shift.{Shift}
 use Rattle.vec_exec.specs.Recipes.{shift_of, moved_in, list_of, counts_of, length_of}
 use Rattle.vec_exec.proofs.Clipped.{clips-leave, clips-flag}
 use Rattle.vec_exec.proofs.Widths.{log2-is}

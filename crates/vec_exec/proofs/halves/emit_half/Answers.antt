@@ -1,4 +1,4 @@
-use Rattle.std.proofs.Common.{inl, refl, sym, ◌∙◌, arith}
+use Rattle.std.proofs.Common.{inl, refl, sym, arith}
 use Rattle.vec_exec.proofs.Widths.{log2-is}
 use Rattle.micro_ir.proofs.Lists.{counts_and-none}
 use Rattle.vec_exec.proofs.Written.{four-parts, measured-append, measured-same, value-low, half-few}

@@ -1,13 +1,9 @@
-use Rattle.std.proofs.Common.{◌≡◌, ◌∙◌, sym, ap, false, None}
-use Rattle.std.specs.Prelude.{is_some}
-use Rattle.vec_exec.specs.Recipes.{recipe_for}
-use Rattle.vec_exec.proofs.Computed.{whole-when-planned}
+use Rattle.std.proofs.Common.{◌∙◌, sym}
 use Rattle.vec_exec.proofs.Planned.{prog-is, cost-is, whole-prog, whole-costs}
 use Rattle.vec_exec.proofs.planning.emit_by_operation.Goals as goal
 
-pub emit_whole-requires-clause-kind : goal.emit_whole-requires-clause-kind
-emit_whole-requires-clause-kind c =
-    whole-when-planned c.args.i.now c.requires.built c.requires.engine (sym (ap is_some c.recipe_of.ensures) ∙ ap is_some c.in-None.is)
+pub emit_whole-requires-clause-none : goal.emit_whole-requires-clause-none
+emit_whole-requires-clause-none c = sym c.recipe_of.ensures ∙ c.in-None.is
 
 pub returns-in-Some-clause-program : goal.returns-in-Some-clause-program
 returns-in-Some-clause-program c =
@@ -19,9 +15,6 @@ returns-in-Some-clause-cost c = c.emit_program.ensures.cost ∙ sym (cost-is c.i
 pub returns-in-None-clause-program : goal.returns-in-None-clause-program
 returns-in-None-clause-program c =
     c.emit_whole.ensures.program ∙ sym (whole-prog c.args.i.now c.args.cfg.now c.args.scalar (sym c.recipe_of.ensures ∙ c.in-None.is))
-
-pub returns-in-None-clause-realises : goal.returns-in-None-clause-realises
-returns-in-None-clause-realises c = c.emit_whole.ensures.realises c.args.scalar
 
 pub returns-in-None-clause-cost : goal.returns-in-None-clause-cost
 returns-in-None-clause-cost c = c.emit_whole.ensures.cost ∙ sym (whole-costs c.args.i.now c.args.cfg.now (sym c.recipe_of.ensures ∙ c.in-None.is))

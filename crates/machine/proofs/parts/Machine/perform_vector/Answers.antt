@@ -2,7 +2,7 @@ use Rattle.std.proofs.Common.{◌≡◌, ◌∙◌, ap, true, arith}
 use Rattle.rvv_meaning.specs.States.{Core}
 use Rattle.machine.specs.Moments.{Held}
 use Rattle.machine.proofs.Carried.{emptied, carries-configuration}
-use Rattle.machine.proofs.Configurations.{computed-built, vector-retires, vector-length}
+use Rattle.machine.proofs.Configurations.{computes, vector-retires, vector-length}
 use Rattle.machine.proofs.parts.Machine.perform_vector.Goals as goal
 
 pub returns-in-Config-clause-carries : goal.returns-in-Config-clause-carries
@@ -20,4 +20,4 @@ pub returns-in-Config-clause-length : goal.returns-in-Config-clause-length
 returns-in-Config-clause-length c = ap (λ (h : Held). h.core.csrs.vlen) c.configure.ensures ∙ vector-length c.args.i.now c.args.self.now.core
 
 pub compute-requires-clause-computed : goal.compute-requires-clause-computed
-compute-requires-clause-computed c = computed-built c.args.i.now.op c.requires.fits.built c.in-Opi.is
+compute-requires-clause-computed c = computes c.args.i.now.op c.in-Opi.is

@@ -1,0 +1,2 @@
+-- Bits of registers.
+pub mod Bits
