@@ -13,7 +13,7 @@ use Rattle.cape_top.specs.declared.ending.Status.TheVariants.{Done, StepLimit, R
 use Rattle.cape_top.specs.Debugging.{DebugReadFails, FileFails, IsOfDebug}
 use Rattle.cape_top.specs.Statuses.{IsEnded, IsFault, IsOfRun, IsRefused}
 use Rattle.cape_top.specs.Calls.{Call, HasNoFault, InputRose, SinkRose, known_at}
-use Rattle.cape_top.specs.Promises.{HasCause, ImageReadFails, IsDone, ReadFails, RunsGuest, RunsImage, TakesMemory, operand}
+use Rattle.cape_top.specs.Promises.{HasCause, ImageReadFails, IsDone, ReadFails, RefusalCause, RunsGuest, RunsImage, TakesMemory, operand}
 
 -- a status that is neither a refusal, nor a usage error, nor a read fault
 abbrev pub IsApart : Status → Type 0
@@ -105,12 +105,14 @@ module _ (words : List (List ℕ)) (c : Call)
 
     -- a command on an image, or a session on one
     pub cause_of : (command : Command) (s : Status) → command_of words ≡ Some command → c.files.names ≡ words → IsOnImage command → TakesMemory command
-        → (IsOfRun s → RunsGuest command) → (s ≡ Done → IsDone command) → (s ≡ Usage → ⊥) → (known_at operand c ≡ Absent → s ≡ ReadFault)
+        → (IsOfRun s → RunsGuest command) → (s ≡ Done → IsDone command) → (s ≡ Usage → ⊥) → RefusalCause (known_at operand c) s
+        → (known_at operand c ≡ Absent → s ≡ ReadFault)
         → (s ≡ ReadFault → ReadFails command operand (known_at operand c) c) → (s ≡ WriteFault → SinkRose c.devices) → HasCause words c s
-    cause_of command s found made on takes of_run of_done no_usage absent read write = record {
+    cause_of command s found made on takes of_run of_done no_usage refused absent read write = record {
       of_run = λ run. rw found (of_run run);
       of_done = λ done. rw found (of_done done);
-      of_image = λ refused. rw found on;
+      of_image = λ is. rw found on;
+      refused = λ f is. rw (← made) (refused f is);
       of_words = λ usage. absurd (no_usage usage);
       no_command = λ none. absurd (no_words command found none);
       of_memory = λ lacks. rw found takes;
@@ -124,16 +126,17 @@ module _ (words : List (List ℕ)) (c : Call)
     done_check command is = rw is tt
 
     pub cause_on_image : (command : ImageCommand) (s : Status) → command_of words ≡ Some (OnImage command) → c.files.names ≡ words
-        → (IsOfRun s → RunsImage command) → (s ≡ Done → command ≡ Check) → (s ≡ Usage → ⊥) → (known_at operand c ≡ Absent → s ≡ ReadFault)
+        → (IsOfRun s → RunsImage command) → (s ≡ Done → command ≡ Check) → (s ≡ Usage → ⊥) → RefusalCause (known_at operand c) s
+        → (known_at operand c ≡ Absent → s ≡ ReadFault)
         → (s ≡ ReadFault → ImageReadFails command operand (known_at operand c) c) → (s ≡ WriteFault → SinkRose c.devices) → HasCause words c s
-    cause_on_image command s found made of_run of_done no_usage absent read write =
-        cause_of (OnImage command) s found made tt tt of_run (λ done. done_check command (of_done done)) no_usage absent read write
+    cause_on_image command s found made of_run of_done no_usage refused absent read write =
+        cause_of (OnImage command) s found made tt tt of_run (λ done. done_check command (of_done done)) no_usage refused absent read write
 
     pub cause_of_debug : (options : DebugOptions) (s : Status) → command_of words ≡ Some (Debug options) → c.files.names ≡ words → IsOfDebug s
-        → (known_at operand c ≡ Absent → s ≡ ReadFault) → (s ≡ ReadFault → DebugReadFails options operand (known_at operand c) c) → (s ≡ WriteFault → SinkRose c.devices)
+        → RefusalCause (known_at operand c) s → (known_at operand c ≡ Absent → s ≡ ReadFault) → (s ≡ ReadFault → DebugReadFails options operand (known_at operand c) c) → (s ≡ WriteFault → SinkRose c.devices)
         → HasCause words c s
-    cause_of_debug options s found made only absent read write =
-        cause_of (Debug options) s found made tt tt (debug_runs s only) (λ done. tt) (debug_usage s only) absent read write
+    cause_of_debug options s found made only refused absent read write =
+        cause_of (Debug options) s found made tt tt (debug_runs s only) (λ done. tt) (debug_usage s only) refused absent read write
 
     -- a command of another kind
     pub cause_apart : (command : Command) (s : Status) → command_of words ≡ Some command → (IsOnImage command → ⊥) → IsDone command
@@ -141,7 +144,8 @@ module _ (words : List (List ℕ)) (c : Call)
     cause_apart command s found other done of_run apart of_memory write = record {
       of_run = λ run. rw found (of_run run);
       of_done = λ is. rw found done;
-      of_image = λ refused. absurd (apart_refused s apart refused);
+      of_image = λ is. absurd (apart_refused s apart is);
+      refused = λ f is. absurd (rw is at apart);
       of_words = λ is. absurd (rw is at apart);
       no_command = λ none. absurd (no_words command found none);
       of_memory = λ lacks. rw found (of_memory lacks);
@@ -156,7 +160,8 @@ module _ (words : List (List ℕ)) (c : Call)
     cause_usage s none (inl is) write = rw is record {
       of_run = λ run. absurd run;
       of_done = λ done. absurd (cc);
-      of_image = λ refused. absurd refused;
+      of_image = λ is. absurd is;
+      refused = λ f is. absurd (cc);
       of_words = λ usage. none;
       no_command = λ again. inl refl;
       of_memory = λ lacks. absurd (cc);
@@ -168,7 +173,8 @@ module _ (words : List (List ℕ)) (c : Call)
     cause_usage s none (inr is) write = rw is record {
       of_run = λ run. absurd run;
       of_done = λ done. absurd (cc);
-      of_image = λ refused. absurd refused;
+      of_image = λ is. absurd is;
+      refused = λ f is. absurd (cc);
       of_words = λ usage. none;
       no_command = λ again. inr refl;
       of_memory = λ lacks. absurd (cc);

@@ -2,7 +2,8 @@
 use Rattle.std.proofs.Common.{◌≡◌, ◌⊎◌, inl, inr, Option, Some, None, refl, sym, subst, IfSome, List, [], take, drop, ℕ}
 use Rattle.std.specs.Io.KnownBytes.{Appends}
 use Rattle.std.proofs.lemmas.List.{take-append-drop}
-use Rattle.cape_io.specs.Devices.{AppendsPrefix}
+use Rattle.cape_io.specs.Devices.{AppendsPrefix, KnownFile}
+use Rattle.elf_load.specs.declared.faults.LoadFault.{LoadFault}
 use Rattle.machine.specs.Moments.{Held}
 use Rattle.machine.specs.Views.{GainsPrefix}
 use Rattle.machine.specs.declared.answers.Step.{Step}
@@ -12,7 +13,10 @@ use Rattle.cape_top.specs.declared.ending.Status.TheVariants.{Done, StepLimit, R
 use Rattle.cape_top.specs.Statuses.{IsEnded, IsFault, IsOfRun}
 use Rattle.cape_io.specs.Views.{Devices}
 use Rattle.cape_top.specs.Calls.{WritesNothing}
+use Rattle.cape_top.specs.Debugging.{IsOfSession}
 use Rattle.cape_top.specs.Endings.{Ending, Ends, EndsBy, WritesPrefixes, status_for}
+use Rattle.cape_top.specs.Promises.{RefusalCause}
+use Rattle.cape_top.specs.Reading.{IsFaultOf}
 
 pub ended_no_fault : (s : Status) → IsEnded s → IsFault s → ⊥
 ended_no_fault ReadFault ended fault = ended
@@ -37,6 +41,26 @@ pub run_of_answer : (a : Step) → IsOfRun (status_for a)
 run_of_answer Ran = tt
 run_of_answer (Exited c) = tt
 run_of_answer (Trapped t) = tt
+
+-- what is refused by a fault of the image, unless its line cannot be written
+pub refusal_by : (known : KnownFile) (s : Status) (fault : LoadFault) → IsFaultOf known fault → (s ≡ Refused fault) ⊎ (s ≡ WriteFault) → RefusalCause known s
+refusal_by known s fault is (inl refused) f same = subst (IsFaultOf known) (cc) is
+refusal_by known s fault is (inr fails) f same = absurd (cc)
+
+-- what ends otherwise is no refusal
+pub no_refusal_of_run : (known : KnownFile) (s : Status) → IsOfRun s ⊎ (IsFault s ⊎ (s ≡ NoMemory)) → RefusalCause known s
+no_refusal_of_run known s (inl run) f same = absurd (subst IsOfRun same run)
+no_refusal_of_run known s (inr (inl fault)) f same = absurd (subst IsFault same fault)
+no_refusal_of_run known s (inr (inr lacks)) f same = absurd (cc)
+
+pub no_refusal_of_text : (known : KnownFile) (s : Status) → (s ≡ Done) ⊎ (s ≡ WriteFault) → RefusalCause known s
+no_refusal_of_text known s (inl done) f same = absurd (cc)
+no_refusal_of_text known s (inr fails) f same = absurd (cc)
+
+pub no_refusal_of_session : (known : KnownFile) (s : Status) → IsOfSession s → RefusalCause known s
+no_refusal_of_session known s (inl done) f same = absurd (cc)
+no_refusal_of_session known s (inr (inl fault)) f same = absurd (subst IsFault same fault)
+no_refusal_of_session known s (inr (inr lacks)) f same = absurd (cc)
 
 pub all_of : {A : Type 0} (o : Option A) (P : A → Type 0) → ((a : A) → P a) → IfSome o P
 all_of None P all = tt

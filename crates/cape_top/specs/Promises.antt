@@ -3,6 +3,7 @@ use Rattle.std.specs.Prelude.{◌≡◌, ◌⊎◌, ⊤, ℕ, List, Option, Some
 use Rattle.std.specs.declared.alloc.Global.{Global}
 use Rattle.std.specs.declared.string.String.{String}
 use Rattle.cape_io.specs.Devices.{Absent, KnownFile, word_at}
+use Rattle.elf_load.specs.declared.faults.LoadFault.{LoadFault}
 use Rattle.command_words.specs.Grammar.{command_of, IsOnImage}
 use Rattle.command_words.specs.declared.words.Command.{Command}
 use Rattle.command_words.specs.declared.words.Command.TheVariants.{OnImage, Debug, Gen, Bench, Help}
@@ -13,12 +14,12 @@ use Rattle.command_words.specs.declared.words.RunOptions.{RunOptions}
 use Rattle.command_words.specs.declared.words.Workload.{Workload}
 use Rattle.machine.specs.Moments.{Held}
 use Rattle.cape_top.specs.declared.ending.Status.{Status}
-use Rattle.cape_top.specs.declared.ending.Status.TheVariants.{Done, Usage, ReadFault, WriteFault, NoMemory}
+use Rattle.cape_top.specs.declared.ending.Status.TheVariants.{Done, Refused, Usage, ReadFault, WriteFault, NoMemory}
 use Rattle.cape_top.specs.Statuses.{IsEnded, IsOfRun, IsRefused}
 use Rattle.cape_top.specs.Calls.{Call, HasNoFault, InputRose, SinkRose, known_at}
 use Rattle.cape_top.specs.Debugging.{DebugEnds, DebugReadFails, FileFails}
 use Rattle.cape_top.specs.Endings.{Ending, Ends, ReadsKnown, bench_ending, file_ending, gen_ending, help_ending, usage_ending}
-use Rattle.cape_top.specs.Reading.{file_if}
+use Rattle.cape_top.specs.Reading.{IsFaultOf, file_if}
 
 -- the bytes of words
 abbrev pub words_of : List (String Global) → List (List ℕ)
@@ -94,6 +95,10 @@ ReadFails Help place known c = ⊥
 abbrev pub ReadCause : ImageCommand → ℕ → Call → Status → Type 0
 ReadCause command place c status = status ≡ ReadFault → ImageReadFails command place (known_at place c) c
 
+-- An image of which this is known is refused only by its first fault.
+abbrev pub RefusalCause : KnownFile → Status → Type 0
+RefusalCause known status = (f : LoadFault) → status ≡ Refused f → IsFaultOf known f
+
 -- the commands that end as their guest does, those that are done, and those that take memory
 abbrev pub RunsImage : ImageCommand → Type 0
 RunsImage (Run options) = ⊤
@@ -123,8 +128,9 @@ pub record HasCause (words : List (List ℕ)) (c : Call) (status : Status) : Typ
   -- A guest's end, or the budget's, is that of a command that ends so; a command of another kind is done.
   pub of_run : IsOfRun status → IsSomeAnd (command_of words) RunsGuest
   pub of_done : status ≡ Done → IsSomeAnd (command_of words) IsDone
-  -- An image is refused only where the words are a command on one.
+  -- An image is refused only where the words are a command on one, and only by its first fault, where the image is known.
   pub of_image : IsRefused status → IsSomeAnd (command_of words) IsOnImage
+  pub refused : RefusalCause (known_file words c) status
   -- Words outside the grammar are a usage error, unless its line cannot be written; no others are.
   pub of_words : status ≡ Usage → command_of words ≡ None
   pub no_command : command_of words ≡ None → (status ≡ Usage) ⊎ (status ≡ WriteFault)

@@ -5,6 +5,7 @@ ghost use Rattle.cape_io.specs.Views.{devices};
 ghost use Rattle.command_words.specs.Grammar.{IsSessionInRange};
 ghost use Rattle.cape_top.specs.Calls.{call, SinkRose};
 ghost use Rattle.cape_top.specs.Debugging.{status_of_session, IsOfDebug, IsOfSession, LoadedSession, PlaceDebugEnds, DebugReadCause};
+ghost use Rattle.cape_top.specs.Promises.{RefusalCause};
 
 use crate::ending::Status;
 use crate::images::refuse;
@@ -74,6 +75,7 @@ pub(crate) fn debug<F: Files, S: Source, O: Sink, E: Sink>(
     requires range { IsSessionInRange options }
     ensures ends { PlaceDebugEnds options place (call F.Files S.Source O.Sink E.Sink files.old files.new input.old input.new out.old out.new err.old err.new) result }
     ensures only { IsOfDebug result }
+    ensures refused { RefusalCause (F.known_file files.old (word_at (F.names files.old) place)) result }
     ensures absent { F.known_file files.old (word_at (F.names files.old) place) ≡ Absent → result ≡ Status.ReadFault }
     ensures read { DebugReadCause options place (call F.Files S.Source O.Sink E.Sink files.old files.new input.old input.new out.old out.new err.old err.new) result }
     ensures write { result ≡ Status.WriteFault → SinkRose (devices S.Source O.Sink E.Sink input.old input.new out.old out.new err.old err.new) }

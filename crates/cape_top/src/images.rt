@@ -10,7 +10,7 @@ ghost use Rattle.report_texts.specs.Lines.{refused_line as line_for};
 ghost use Rattle.cape_top.specs.Calls.{call, SinkRose};
 ghost use Rattle.cape_top.specs.Statuses.{IsOfRun, IsFault};
 ghost use Rattle.cape_top.specs.Runs.{LoadedEnds, LoadedReads};
-ghost use Rattle.cape_top.specs.Promises.{ImageEnds, MayKeepOf, ReadCause, RunsImage};
+ghost use Rattle.cape_top.specs.Promises.{ImageEnds, MayKeepOf, ReadCause, RefusalCause, RunsImage};
 
 use crate::ending::Status;
 use crate::loading::{Stop, load_image};
@@ -91,6 +91,7 @@ pub(crate) fn do_on_image<F: Files, S: Source, O: Sink, E: Sink>(
     ensures of_run { IsOfRun result → RunsImage command }
     ensures of_done { result ≡ Status.Done → command ≡ ImageCommand.Check }
     ensures no_usage { result ≢ Status.Usage }
+    ensures refused { RefusalCause (F.known_file files.old (word_at (F.names files.old) place)) result }
     ensures absent { F.known_file files.old (word_at (F.names files.old) place) ≡ Absent → result ≡ Status.ReadFault }
     ensures read { ReadCause command place (call F.Files S.Source O.Sink E.Sink files.old files.new input.old input.new out.old out.new err.old err.new) result }
     ensures write { result ≡ Status.WriteFault → SinkRose (devices S.Source O.Sink E.Sink input.old input.new out.old out.new err.old err.new) }

@@ -4,6 +4,7 @@ use Rattle.machine.proofs.Carried.{appends_none}
 use Rattle.report_texts.specs.Lines.{refused_line}
 use Rattle.cape_top.specs.declared.ending.Status.TheVariants.{NoMemory, ReadFault, Refused}
 use Rattle.cape_top.proofs.DebugLemmas.{debug_held, debug_none, debug_refused}
+use Rattle.cape_top.proofs.StatusLemmas.{no_refusal_of_session, refusal_by}
 use Rattle.cape_top.proofs.TopLemmas.{writes_err}
 use Rattle.cape_top.proofs.debugging.debug.Goals as goal
 
@@ -27,6 +28,10 @@ returns-in-Err-Refused-clause-ends g c =
     (λ P holds. holds)
     (rw c.in-Err-Refused.fault-is at c.refuse.ensures.only) (rw c.in-Err-Refused.fault-is at c.refuse.ensures.said) (rw c.in-Err-Refused.fault-is at c.refuse.ensures.fails))
 
+pub returns-in-Err-Refused-clause-refused : goal.returns-in-Err-Refused-clause-refused
+returns-in-Err-Refused-clause-refused g c =
+    refusal_by _ c.refuse.result c.in-Err-Refused.fault (rw c.in-Err-Refused.field-0-is at c.in-Err-Refused.ensures.refused) (rw c.in-Err-Refused.fault-is at c.refuse.ensures.only)
+
 pub returns-in-Err-ReadFault-read_input-clause-ends : goal.returns-in-Err-ReadFault-read_input-clause-ends
 returns-in-Err-ReadFault-read_input-clause-ends g c =
     let d = devices g.S.Source g.O.Sink g.E.Sink c.args.input.now c.args.input.now c.args.out.now c.args.out.now c.args.err.now c.args.err.now in
@@ -38,10 +43,14 @@ returns-in-Err g c =
     record {
       ends = debug_none c.args.options d NoMemory None _ _ (inr refl) record { gains_out = appends_none _; gains_err = appends_none _ };
       only = inr (inr (inr refl));
+      refused = λ f is. absurd (cc);
       absent = λ is. absurd (rw is at c.in-Ok.ensures.loaded);
       read = λ is. cc;
       write = λ is. cc;
     }
+
+pub returns-clause-refused : goal.returns-clause-refused
+returns-clause-refused g c = no_refusal_of_session _ c.hold.result c.hold.ensures.only
 
 pub returns-clause-ends : goal.returns-clause-ends
 returns-clause-ends g c =

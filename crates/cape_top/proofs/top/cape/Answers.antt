@@ -25,7 +25,7 @@ returns-in-Some-OnImage-clause-cause g c =
     let d = call g.F.Files g.S.Source g.O.Sink g.E.Sink c.args.files.now c.do_on_image.new.files c.args.input.now c.do_on_image.new.input c.args.out.now c.do_on_image.new.out c.args.err.now c.do_on_image.new.err in
     let found = sym c.command_of.ensures.command ∙ c.in-Some-OnImage.is ∙ ap Some c.in-Some-OnImage.field-0-is in
     cause_on_image words d c.in-Some-OnImage.command c.do_on_image.result found c.requires.words c.do_on_image.ensures.of_run c.do_on_image.ensures.of_done c.do_on_image.ensures.no_usage
-    c.do_on_image.ensures.absent c.do_on_image.ensures.read c.do_on_image.ensures.write
+    c.do_on_image.ensures.refused c.do_on_image.ensures.absent c.do_on_image.ensures.read c.do_on_image.ensures.write
 
 pub returns-in-Some-Debug-clause-ends : goal.returns-in-Some-Debug-clause-ends
 returns-in-Some-Debug-clause-ends g c =
@@ -39,7 +39,7 @@ returns-in-Some-Debug-clause-cause g c =
     let words = words_of c.args.words.now in
     let d = call g.F.Files g.S.Source g.O.Sink g.E.Sink c.args.files.now c.debug.new.files c.args.input.now c.debug.new.input c.args.out.now c.debug.new.out c.args.err.now c.debug.new.err in
     let found = sym c.command_of.ensures.command ∙ c.in-Some-Debug.is ∙ ap Some c.in-Some-Debug.field-0-is in
-    cause_of_debug words d c.in-Some-Debug.options c.debug.result found c.requires.words c.debug.ensures.only c.debug.ensures.absent c.debug.ensures.read c.debug.ensures.write
+    cause_of_debug words d c.in-Some-Debug.options c.debug.result found c.requires.words c.debug.ensures.only c.debug.ensures.refused c.debug.ensures.absent c.debug.ensures.read c.debug.ensures.write
 
 pub returns-in-Some-Gen-clause-ends : goal.returns-in-Some-Gen-clause-ends
 returns-in-Some-Gen-clause-ends g c =
